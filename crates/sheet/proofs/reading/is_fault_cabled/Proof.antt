@@ -1,0 +1,43 @@
+use Rattle.sheet.specs.Cables.{cabled}
+use mathlib.Core.Path.{ap₂, _∙_}
+use borrow.Author.Needs.{needs}
+use Rattle.sheet.proofs.reading.is_fault_cabled.Statement.{statement}
+use Rattle.sheet.proofs.reading.is_fault_cabled.Tie as tie
+
+add-byte-at : tie.Need-add-byte-at
+add-byte-at c = search needs
+
+byte-at-requires : tie.Need-byte-at-requires
+byte-at-requires c κs = search needs
+
+cast-v : tie.Need-cast-v
+cast-v c = search needs
+
+add-byte-at-2 : tie.Need-add-byte-at-2
+add-byte-at-2 c = search needs
+
+byte-at-requires-2 : tie.Need-byte-at-requires-2
+byte-at-requires-2 c κs = search needs
+
+cast-p : tie.Need-cast-p
+cast-p c = search needs
+
+is-used-requires : tie.Need-is-used-requires
+is-used-requires c κs = search needs
+
+returns : tie.Need-returns
+returns c = λ rows marks.
+    c .is-used .ensures ∙ marks .ports (c .before .before .byte-at .result) (c .before .byte-at2 .result) ∙ ap₂ (cabled rows) (c .before .before .byte-at .ensures) (c .before .byte-at2 .ensures)
+
+pub is-fault-cabled-spec : {M : Type 1} → statement M
+is-fault-cabled-spec =
+    tie.close
+    (tie.spec
+    add-byte-at
+    byte-at-requires
+    cast-v
+    add-byte-at-2
+    byte-at-requires-2
+    cast-p
+    is-used-requires
+    returns)

@@ -1,0 +1,41 @@
+use mathlib.Core.Path.{sym, _∙_}
+use borrow.Author.Needs.{needs}
+use Rattle.sheet.proofs.used.is_either_used.Statement.{statement}
+use Rattle.sheet.proofs.used.is_either_used.Tie as tie
+
+cast-is-used : tie.Need-cast-is-used
+cast-is-used c = search needs
+
+cast-is-used-2 : tie.Need-cast-is-used-2
+cast-is-used-2 c = search needs
+
+is-used-requires : tie.Need-is-used-requires
+is-used-requires c κs = search needs
+
+returns : tie.Need-returns
+returns c = rw (sym (c .before .is-used .ensures) ∙ c .if1 .taken)
+
+cast-is-used-3 : tie.Need-cast-is-used-3
+cast-is-used-3 c = search needs
+
+cast-is-used-4 : tie.Need-cast-is-used-4
+cast-is-used-4 c = search needs
+
+is-used-requires-2 : tie.Need-is-used-requires-2
+is-used-requires-2 c κs = search needs
+
+returns-2 : tie.Need-returns-2
+returns-2 c = rw (sym (c .before .before .before .before .is-used .ensures) ∙ c .before .before .before .if1 .left) (c .is-used2 .ensures)
+
+pub is-either-used-spec : {M : Type 1} → statement M
+is-either-used-spec =
+    tie.close
+    (tie.spec
+    cast-is-used
+    cast-is-used-2
+    is-used-requires
+    returns
+    cast-is-used-3
+    cast-is-used-4
+    is-used-requires-2
+    returns-2)

@@ -1,0 +1,15 @@
+pub mod Lists
+pub mod Records
+pub mod Standing
+pub mod Cables
+pub mod Faults
+pub mod Order
+pub mod Refusals
+pub mod FaultyRow
+pub mod Sound
+pub mod Accepted
+pub mod Exactly
+pub mod Rising
+pub mod Rebuilt
+pub mod Used
+pub mod Told

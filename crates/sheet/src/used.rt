@@ -1,0 +1,56 @@
+// Which ports are used: a number for each switch, in which bit p stands for port p. 512 bytes serve all switches.
+ghost use mathlib.Core.Path.{_≡_};
+ghost use mathlib.Core.List.{List, _∷_, [], _++_};
+ghost use Prim.Native.Nat.{ℕ};
+ghost use lib.Dec.{eqb};
+ghost use lib.ListN.{length};
+ghost use Rattle.sheet.specs.Lists.{both, either};
+ghost use Rattle.sheet.specs.Sound.{Within, EndInRange};
+ghost use Rattle.sheet.specs.Used.{marked, Marks};
+ghost use Rattle.sheet.specs.declared.cables.Cable.{Cable as Row};
+use crate::cables::Cable;
+use crate::ranges::is_within;
+
+pub fn is_used(used: &[u64; 64], v: u64, p: u64) -> bool
+    ensures { λ r. ⌜ r ≡ marked (now (used .entry)) v p ⌝ }
+{
+    if is_within(64, v) {
+        if is_within(48, p) {
+            let i = (v - 1) as usize;
+            let word = used[i];
+            return (word >> p) % 2 == 1;
+        }
+        return false;
+    }
+    false
+}
+
+// A port within the ranges is used from now on.
+pub fn use_port(used: &mut [u64; 64], v: u64, p: u64)
+    requires { ⌜ (length (now used) ≡ 64) × Within 64 v × Within 48 p ⌝ }
+    ensures { λ r. ⌜ length (now (used .exit)) ≡ 64 ⌝ }
+    ensures { λ r. ⌜ ((w q : ℕ) → marked (now (used .exit)) w q ≡ either (both (eqb v w) (eqb p q)) (marked (now (used .entry)) w q)) ⌝ }
+{
+    let i = (v - 1) as usize;
+    let word = used[i];
+    used[i] = word | (1 << p);
+}
+
+// Both ends of a cable.
+pub fn use_cable(used: &mut [u64; 64], c: Cable)
+    requires { ⌜ (length (now used) ≡ 64) × EndInRange 64 (c .near) × EndInRange 64 (c .far) ⌝ }
+    ensures { λ r. ⌜ ((rows : List Row) → Marks (now (used .entry)) rows → Marks (now (used .exit)) (rows ++ (c ∷ []))) ⌝ }
+{
+    use_port(used, c.near.switch as u64, c.near.port as u64);
+    use_port(used, c.far.switch as u64, c.far.port as u64);
+}
+
+// Whether either end of a cable has a port that is used.
+pub fn is_either_used(used: &[u64; 64], c: Cable) -> bool
+    ensures { λ r. ⌜ r ≡ either (marked (now (used .entry)) (c .near .switch) (c .near .port)) (marked (now (used .entry)) (c .far .switch) (c .far .port)) ⌝ }
+{
+    if is_used(used, c.near.switch as u64, c.near.port as u64) {
+        return true;
+    }
+    is_used(used, c.far.switch as u64, c.far.port as u64)
+}
