@@ -31,7 +31,7 @@ use Rattle.sheet.specs.Exactly.{
 }
 use Rattle.sheet.specs.declared.cables.Cable.{Cable}
 use Rattle.sheet.proofs.Right.{WrongWith}
-use Rattle.sheet.proofs.Faults.{fault-tells, fault-right, fault-refused}
+use Rattle.sheet.proofs.FaultList.{fault-tells, fault-right, fault-refused}
 use Rattle.sheet.proofs.Accepted.{accepted-is, accepted-of}
 use Rattle.sheet.proofs.Sheet.{sheet-tells, sheet-refused}
 

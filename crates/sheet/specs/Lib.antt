@@ -11,5 +11,6 @@ pub mod Accepted
 pub mod Exactly
 pub mod Rising
 pub mod Rebuilt
+pub mod Cabling
 pub mod Used
 pub mod Told

@@ -68,12 +68,12 @@ fn read_rows(sheet: &[u8], n: u64, from: usize, used: &mut [u64; 64]) -> Told
     ensures { λ r. ⌜ ((rows : List Row) → scan row SheetForm cableAt (rowRule n) 512 (now (sheet .entry)) from [] ≡ right rows → Marks (now (used .exit)) rows) ⌝ }
 {
     let mut at = from;
-    let mut count: u64 = 0;
+    let mut cables: u64 = 0;
     loop {
         let found = record_at(sheet, at, ROW);
         match found {
             Found::Ended => {
-                return Told::Right(count);
+                return Told::Right(cables);
             }
             Found::WrongKind => {
                 return Told::Wrong(Rule::SheetForm, at, 1);
@@ -82,7 +82,7 @@ fn read_rows(sheet: &[u8], n: u64, from: usize, used: &mut [u64; 64]) -> Told
                 return Told::Wrong(Rule::SheetForm, at, sheet.len() - at);
             }
             Found::Record(next) => {
-                if count == 512 {
+                if cables == 512 {
                     return Told::Wrong(Rule::SheetForm, at, next - at);
                 }
                 let c = cable_at(sheet, at);
@@ -92,7 +92,7 @@ fn read_rows(sheet: &[u8], n: u64, from: usize, used: &mut [u64; 64]) -> Told
                 }
                 use_cable(used, c);
                 at = next;
-                count += 1;
+                cables += 1;
             }
         }
     }
@@ -124,12 +124,12 @@ pub fn read_faults(faults: &[u8], used: &[u64; 64]) -> Told
     ensures { λ r. ⌜ ((rows : List Row) → Marks (now (used .entry)) rows → r ≡ toldOf (faultReading rows (now (faults .entry)))) ⌝ }
 {
     let mut at: usize = 0;
-    let mut count: u64 = 0;
+    let mut named: u64 = 0;
     loop {
         let found = record_at(faults, at, FAULT);
         match found {
             Found::Ended => {
-                return Told::Right(count);
+                return Told::Right(named);
             }
             Found::WrongKind => {
                 return Told::Wrong(Rule::FaultForm, at, 1);
@@ -138,14 +138,14 @@ pub fn read_faults(faults: &[u8], used: &[u64; 64]) -> Told
                 return Told::Wrong(Rule::FaultForm, at, faults.len() - at);
             }
             Found::Record(next) => {
-                if count == 512 {
+                if named == 512 {
                     return Told::Wrong(Rule::FaultForm, at, next - at);
                 }
                 if !is_fault_cabled(faults, at, used) {
                     return Told::Wrong(Rule::FaultUncabled, at, next - at);
                 }
                 at = next;
-                count += 1;
+                named += 1;
             }
         }
     }

@@ -11,7 +11,7 @@ use Rattle.sheet.specs.FaultyRow.{faultyPart}
 use Rattle.sheet.proofs.Marking.{marks-none}
 use Rattle.sheet.proofs.Telling.{told-right, told-wrong, RightTold}
 use Rattle.sheet.proofs.Sheet.{sheet-inside}
-use Rattle.sheet.proofs.Faults.{faults-inside}
+use Rattle.sheet.proofs.FaultList.{faults-inside}
 use borrow.Author.Needs.{needs}
 use Rattle.sheet.proofs.check.faulty_row.Statement.{statement}
 use Rattle.sheet.proofs.check.faulty_row.Tie as tie

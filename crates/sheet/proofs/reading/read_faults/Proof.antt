@@ -20,10 +20,10 @@ use Rattle.sheet.proofs.reading.read_faults.Statement.{statement}
 use Rattle.sheet.proofs.reading.read_faults.Tie as tie
 
 abbrev Inv-loop : tie.InvT-loop
-Inv-loop faults used at₀ count₀ at count = (count ≤ 512) × ((rows : List Cable) → Marks used rows → (before : List Socket) × Through fault FaultForm faultAt (faultRule rows) faults 0 at count before)
+Inv-loop faults used at₀ named₀ at named = (named ≤ 512) × ((rows : List Cable) → Marks used rows → (before : List Socket) × Through fault FaultForm faultAt (faultRule rows) faults 0 at named before)
 
 abbrev μ-loop : tie.MeasureT-loop
-μ-loop faults used at₀ count₀ at count = 512 - count
+μ-loop faults used at₀ named₀ at named = 512 - named
 
 loop-holds : tie.Need-loop-holds Inv-loop μ-loop
 loop-holds c = (omega arith, λ rows marks. ([], through-start fault FaultForm faultAt (faultRule rows) (now (c .before .args .faults)) 0))
@@ -87,8 +87,8 @@ returns-5 c = λ rows marks.
     let uncabled = sym (c .before .is-fault-cabled .ensures rows marks) ∙ not-true _ (c .if2 .taken) in
     sym (ap toldOf (through-breaks _ _ _ _ _ _ (i .1) e (lt-of-le-ne (i .1 .room) (c .before .before .if1 .left)) (rw uncabled)))
 
-add-count : tie.Need-add-count Inv-loop μ-loop
-add-count c = let i = c .before .before .before .before .before .before .before .loop .inv .0 in omega arith
+add-named : tie.Need-add-named Inv-loop μ-loop
+add-named c = let i = c .before .before .before .before .before .before .before .loop .inv .0 in omega arith
 
 loop-less : tie.Need-loop-less Inv-loop μ-loop
 loop-less c = let i = c .before .before .before .before .before .before .before .loop .inv .0 in
@@ -127,6 +127,6 @@ read-faults-spec =
     is-fault-cabled-requires
     sub-t17
     returns-5
-    add-count
+    add-named
     loop-less
     loop-again)

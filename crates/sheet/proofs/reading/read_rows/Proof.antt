@@ -21,10 +21,10 @@ use Rattle.sheet.proofs.reading.read_rows.Statement.{statement}
 use Rattle.sheet.proofs.reading.read_rows.Tie as tie
 
 abbrev Inv-loop : tie.InvT-loop
-Inv-loop sheet n from used₀ at₀ count₀ used at count = (before : List Cable) × Through row SheetForm cableAt (rowRule n) sheet from at count before × Marks used before
+Inv-loop sheet n from used₀ at₀ cables₀ used at cables = (before : List Cable) × Through row SheetForm cableAt (rowRule n) sheet from at cables before × Marks used before
 
 abbrev μ-loop : tie.MeasureT-loop
-μ-loop sheet n from used₀ at₀ count₀ used at count = 512 - count
+μ-loop sheet n from used₀ at₀ cables₀ used at cables = 512 - cables
 
 loop-holds : tie.Need-loop-holds Inv-loop μ-loop
 loop-holds c = ([], through-start row SheetForm cableAt (rowRule (c .before .args .n)) (now (c .before .args .sheet)) (c .before .args .from), c .before .pre .0)
@@ -103,8 +103,8 @@ use-cable-requires c κs = let i = c .before .before .before .before .before .be
     let small = c .before .before .before .before .before .before .before .before .before .before .before .before .before .pre .1 in
     (i .2 .size, omega arith, omega arith)
 
-add-count : tie.Need-add-count Inv-loop μ-loop
-add-count c = let i = c .before .before .before .before .before .before .before .before .before .before .before .before .loop .inv .1 in omega arith
+add-cables : tie.Need-add-cables Inv-loop μ-loop
+add-cables c = let i = c .before .before .before .before .before .before .before .before .before .before .before .before .loop .inv .1 in omega arith
 
 loop-less : tie.Need-loop-less Inv-loop μ-loop
 loop-less c = let i = c .before .before .before .before .before .before .before .before .before .before .before .before .loop .inv .1 in
@@ -145,6 +145,6 @@ read-rows-spec =
     returns-5
     enum-told-4
     use-cable-requires
-    add-count
+    add-cables
     loop-less
     loop-again)
