@@ -1,12 +1,12 @@
 -- One answer: two results that satisfy a promise are equal. Most promises are equations of the result with a definition, and leave no room.
 -- The others are taken here: an answer told by the paper's values, and a part told by its bytes and its place.
 use Prim.Native.Nat.{ℕ}
-use mathlib.Core.Path.{_≡_, refl, sym, _∙_}
+use mathlib.Core.Path.{_≡_, sym, _∙_}
 use mathlib.Core.List.{List}
 use denote.Ref.{RefT, now}
 use native.Mathlib.Omega.{arith}
 use Rattle.sheet.specs.Refusals.{answerOf}
-use Rattle.sheet.specs.FaultyRow.{Part, ofSheet, ofFaults, PartOf, IsPart}
+use Rattle.sheet.specs.FaultyRow.{Part, ofSheet, ofFaults, IsPart}
 use Rattle.sheet.specs.declared.check.Checked.{Checked}
 use Rattle.sheet.specs.declared.check.Checked.the-variants.{Accepted, Refused}
 

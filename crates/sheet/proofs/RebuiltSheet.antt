@@ -1,15 +1,14 @@
 -- Rebuild, on the bytes: an accepted sheet whose rows are put in another order, each with its ends either way round, is accepted with the
 -- same counts and answers every question alike. The port order decides every question, and the rows' order does not touch it.
 use Prim.Native.Nat.{ℕ, _≤_}
-use mathlib.Core.Path.{_≡_, refl, sym, ap, ap₂, fun-ext, subst, _∙_}
+use mathlib.Core.Path.{_≡_, refl, ap, ap₂, subst}
 use mathlib.Core.List.{List, []}
-use lib.ListN.{length}
 use Rattle.sheet.specs.Lists.{pick}
 use Rattle.sheet.specs.Records.{right, scan, fault}
 use Rattle.sheet.specs.Cables.{Socket, socketOf, cabled, switchesOf, sheetReading, rowsOf}
 use Rattle.sheet.specs.Faults.{faultAt, faultRule, faultReading}
 use Rattle.sheet.specs.Order.{portOrder, positionOf, cableOf, isCabled, isLive}
-use Rattle.sheet.specs.Refusals.{Answer, accepted, sheetAnswer, listAnswer, sheetAnswerOf, listAnswerOf, faultAnswerOf}
+use Rattle.sheet.specs.Refusals.{accepted, sheetAnswer, listAnswer, faultAnswerOf}
 use Rattle.sheet.specs.Accepted.{AcceptedSheet}
 use Rattle.sheet.specs.Rebuilt.{Rebuilt, sheetBytes}
 use Rattle.sheet.specs.Cabling.{SameCabling}

@@ -12,18 +12,7 @@ use Rattle.sheet.specs.Cables.{cableAt, within, rowRule, switchesOf, she
 use Rattle.sheet.specs.Refusals.{numberOf}
 use Rattle.sheet.specs.Sound.{Within}
 use Rattle.sheet.specs.Standing.{Whole, OtherKind, Cut}
-use Rattle.sheet.specs.Exactly.{
-  FrontRight,
-  RowsRight,
-  empty,
-  front-kind,
-  front-cut,
-  later,
-  SheetRefusal,
-  by-form,
-  by-count,
-  by-row,
-}
+use Rattle.sheet.specs.Exactly.{FrontRight, RowsRight, empty, front-kind, front-cut, later, SheetRefusal, by-form, by-count, by-row}
 use Rattle.sheet.specs.declared.cables.Cable.{Cable}
 use Rattle.sheet.specs.declared.records.Found.{Found}
 use Rattle.sheet.specs.declared.records.Found.the-variants.{Record, WrongKind, CutShort, Ended}

@@ -7,7 +7,7 @@ use crate::reading::Told;
 use crate::reading::read_faults;
 use crate::reading::read_sheet;
 use crate::records::byte_at;
-use crate::rules::Rule;
+use crate::used::no_port_used;
 
 // Accepted with the number of switches and of cables, or refused with the number.
 pub enum Checked {
@@ -28,7 +28,7 @@ fn answer_of(told: Told, n: u64) -> Checked
 pub fn check_sheet(sheet: &[u8]) -> Checked
     ensures { λ r. ⌜ answerOf r ≡ sheetAnswer (now (sheet .entry)) ⌝ }
 {
-    let mut used = [0u64; 64];
+    let mut used = no_port_used();
     let told = read_sheet(sheet, &mut used);
     answer_of(told, byte_at(sheet, 1) as u64)
 }
@@ -37,7 +37,7 @@ pub fn check_sheet(sheet: &[u8]) -> Checked
 pub fn check_faults(sheet: &[u8], faults: &[u8]) -> Checked
     ensures { λ r. ⌜ answerOf r ≡ listAnswer (now (sheet .entry)) (now (faults .entry)) ⌝ }
 {
-    let mut used = [0u64; 64];
+    let mut used = no_port_used();
     let n = byte_at(sheet, 1) as u64;
     let told = read_sheet(sheet, &mut used);
     let Told::Right(cables) = told else {
@@ -54,7 +54,7 @@ pub fn check_faults(sheet: &[u8], faults: &[u8]) -> Checked
 pub fn faulty_row<'a>(sheet: &'a [u8], faults: &'a [u8]) -> &'a [u8]
     ensures { λ r. ⌜ IsPart (sheet .entry) (faults .entry) (faultyPart (now (sheet .entry)) (now (faults .entry))) r ⌝ }
 {
-    let mut used = [0u64; 64];
+    let mut used = no_port_used();
     let told = read_sheet(sheet, &mut used);
     if let Told::Wrong(_, start, size) = told {
         return &sheet[start..start + size];

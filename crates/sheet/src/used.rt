@@ -3,13 +3,20 @@ ghost use mathlib.Core.Path.{_≡_};
 ghost use mathlib.Core.List.{List, _∷_, [], _++_};
 ghost use Prim.Native.Nat.{ℕ};
 ghost use lib.Dec.{eqb};
-ghost use lib.ListN.{length};
+ghost use lib.ListN.{length, replicate};
 ghost use Rattle.sheet.specs.Lists.{both, either};
 ghost use Rattle.sheet.specs.Sound.{Within, EndInRange};
 ghost use Rattle.sheet.specs.Used.{marked, Marks};
 ghost use Rattle.sheet.specs.declared.cables.Cable.{Cable as Row};
 use crate::cables::Cable;
 use crate::ranges::is_within;
+
+// No port is used yet.
+pub fn no_port_used() -> [u64; 64]
+    ensures { λ r. ⌜ r ≡ replicate 64 0 ⌝ }
+{
+    [0; 64]
+}
 
 pub fn is_used(used: &[u64; 64], v: u64, p: u64) -> bool
     ensures { λ r. ⌜ r ≡ marked (now (used .entry)) v p ⌝ }

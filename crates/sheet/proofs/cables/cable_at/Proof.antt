@@ -1,3 +1,4 @@
+-- `cable_at` reads a row's six bytes. Past the end of the bytes both ends read as no end, as `cableAt` does there.
 use Rattle.sheet.proofs.Ends.{end-past}
 use native.Mathlib.Omega.{arith}
 use lib.ListN.{length}

@@ -1,3 +1,4 @@
+-- `end_at` reads an end's three bytes, zeros past the end of the bytes.
 use Rattle.sheet.proofs.Ends.{end-past}
 use mathlib.Core.Path.{sym}
 use denote.Ref.{now}

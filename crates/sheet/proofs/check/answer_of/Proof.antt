@@ -1,3 +1,4 @@
+-- `answer_of` turns what a reading tells into the check's answer, case by case.
 use mathlib.Core.Path.{sym, ap, _∙_}
 use Rattle.sheet.specs.Told.{checkedOf}
 use Rattle.sheet.specs.declared.check.Checked.the-variants.{Refused}

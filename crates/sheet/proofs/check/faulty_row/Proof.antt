@@ -1,4 +1,6 @@
-use mathlib.Core.Path.{_≡_, sym, refl, ap, _∙_}
+-- `faulty_row` hands back the part that the first wrong record is: its bytes and the place where it begins. It lies in the bytes.
+use mathlib.Core.List.{[]}
+use mathlib.Core.Path.{subst, _≡_, sym, refl, ap, _∙_}
 use native.Mathlib.Omega.{arith}
 use native.Mathlib.Nat.{add-sub-cancel-left}
 use lib.ListN.{take, drop}
@@ -17,27 +19,30 @@ use Rattle.sheet.proofs.check.faulty_row.Statement.{statement}
 use Rattle.sheet.proofs.check.faulty_row.Tie as tie
 
 -- on a right sheet: its rows, the ports that they use, and the first wrong fault
-sheet-rows : (c : tie.After-enum-told) → RightTold (sheetReading (now (c .before .before .before .before .before .before .args .sheet))) (c .enum-told .given .0 .0)
-sheet-rows c = told-right (sheetReading (now (c .before .before .before .before .before .before .args .sheet))) (sym (c .before .before .read-sheet .ensures .0) ∙ c .enum-told .given .1)
+sheet-rows : (c : tie.After-enum-told) → RightTold (sheetReading (now (c .before .before .before .before .before .before .before .args .sheet))) (c .enum-told .given .0 .0)
+sheet-rows c = told-right (sheetReading (now (c .before .before .before .before .before .before .before .args .sheet))) (sym (c .before .before .read-sheet .ensures .0) ∙ c .enum-told .given .1)
 
 sheet-marks : (c : tie.After-enum-told) → Marks (c .before .before .read-sheet .last .1 .0) (sheet-rows c .records)
 sheet-marks c = c .before .before .read-sheet .ensures .1 (sheet-rows c .records) (sheet-rows c .read)
 
-list-wrong : (c : tie.After-list) → faultReading (sheet-rows (c .before .before .before .before) .records) (now (c .before .before .before .before .before .before .before .before .before .before .args .faults)) ≡ wrong (c .list .given .0 .0) (c .list .given .0 .1 .0) (c .list .given .0 .1 .1 .0)
+list-wrong : (c : tie.After-list) → faultReading (sheet-rows (c .before .before .before .before) .records) (now (c .before .before .before .before .before .before .before .before .before .before .before .args .faults)) ≡ wrong (c .list .given .0 .0) (c .list .given .0 .1 .0) (c .list .given .0 .1 .1 .0)
 list-wrong c =
-    told-wrong (faultReading (sheet-rows (c .before .before .before .before) .records) (now (c .before .before .before .before .before .before .before .before .before .before .args .faults)))
+    told-wrong (faultReading (sheet-rows (c .before .before .before .before) .records) (now (c .before .before .before .before .before .before .before .before .before .before .before .args .faults)))
     (sym (c .before .before .read-faults .ensures (sheet-rows (c .before .before .before .before) .records) (sheet-marks (c .before .before .before .before))) ∙ c .list .given .1)
 
+no-port-used-requires : tie.Need-no-port-used-requires
+no-port-used-requires c κs = search needs
+
 read-sheet-requires : tie.Need-read-sheet-requires
-read-sheet-requires c κs = marks-none
+read-sheet-requires c κs = subst (λ table. Marks table []) (sym (c .before .no-port-used .ensures)) marks-none
 
 enum-known-told : tie.Need-enum-known-told
 enum-known-told c = search needs
 
 add-result : tie.Need-add-result
-add-result c = let s = now (c .before .before .before .before .before .before .before .args .sheet) in
+add-result c = let s = now (c .before .before .before .before .before .before .before .before .args .sheet) in
     let inside = sheet-inside s (told-wrong (sheetReading s) (sym (c .before .before .before .read-sheet .ensures .0) ∙ c .before .told .given .1)) in
-    omega (arith, c .before .before .before .before .before .before .before .good)
+    omega (arith, c .before .before .before .before .before .before .before .before .good)
 
 sub-result : tie.Need-sub-result
 sub-result c = search needs
@@ -46,12 +51,12 @@ part-result-start : tie.Need-part-result-start
 part-result-start c = search needs
 
 part-result-end : tie.Need-part-result-end
-part-result-end c = let s = now (c .before .before .before .before .before .before .before .args .sheet) in
+part-result-end c = let s = now (c .before .before .before .before .before .before .before .before .args .sheet) in
     sheet-inside s (told-wrong (sheetReading s) (sym (c .before .before .before .read-sheet .ensures .0) ∙ c .before .told .given .1))
 
 returns : tie.Need-returns
 unfolding faultyPart
-returns c = let s = now (c .before .before .before .before .before .before .before .before .args .sheet) in
+returns c = let s = now (c .before .before .before .before .before .before .before .before .before .args .sheet) in
     let e = told-wrong (sheetReading s) (sym (c .before .before .before .before .read-sheet .ensures .0) ∙ c .before .before .told .given .1) in
     rw e (record { bytes = ap (λ k. take k (drop (c .before .before .told .given .0 .1 .0) s)) (add-sub-cancel-left (c .before .before .told .given .0 .1 .0) (c .before .before .told .given .0 .1 .1 .0)); begins = refl })
 
@@ -65,10 +70,10 @@ enum-known-list : tie.Need-enum-known-list
 enum-known-list c = search needs
 
 add-result-2 : tie.Need-add-result-2
-add-result-2 c = let f = now (c .before .before .before .before .before .before .before .before .before .before .before .args .faults) in
+add-result-2 c = let f = now (c .before .before .before .before .before .before .before .before .before .before .before .before .args .faults) in
     let rows = sheet-rows (c .before .before .before .before .before) .records in
     let inside = faults-inside rows f (list-wrong (c .before)) in
-    omega (arith, c .before .before .before .before .before .before .before .before .before .before .before .good)
+    omega (arith, c .before .before .before .before .before .before .before .before .before .before .before .before .good)
 
 sub-result-2 : tie.Need-sub-result-2
 sub-result-2 c = search needs
@@ -77,11 +82,11 @@ part-result-start-2 : tie.Need-part-result-start-2
 part-result-start-2 c = search needs
 
 part-result-end-2 : tie.Need-part-result-end-2
-part-result-end-2 c = faults-inside (sheet-rows (c .before .before .before .before .before) .records) (now (c .before .before .before .before .before .before .before .before .before .before .before .args .faults)) (list-wrong (c .before))
+part-result-end-2 c = faults-inside (sheet-rows (c .before .before .before .before .before) .records) (now (c .before .before .before .before .before .before .before .before .before .before .before .before .args .faults)) (list-wrong (c .before))
 
 returns-2 : tie.Need-returns-2
 unfolding faultyPart
-returns-2 c = let f = now (c .before .before .before .before .before .before .before .before .before .before .before .before .args .faults) in
+returns-2 c = let f = now (c .before .before .before .before .before .before .before .before .before .before .before .before .before .args .faults) in
     rw (sheet-rows (c .before .before .before .before .before .before) .read, list-wrong (c .before .before))
     (record { bytes = ap (λ k. take k (drop (c .before .before .list .given .0 .1 .0) f)) (add-sub-cancel-left (c .before .before .list .given .0 .1 .0) (c .before .before .list .given .0 .1 .1 .0)); begins = refl })
 
@@ -99,7 +104,7 @@ part-result-end-3 c = search needs
 
 returns-3 : tie.Need-returns-3
 unfolding faultyPart
-returns-3 c = let list = told-right (faultReading (sheet-rows (c .before .before .before .before .before) .records) (now (c .before .before .before .before .before .before .before .before .before .before .before .args .faults)))
+returns-3 c = let list = told-right (faultReading (sheet-rows (c .before .before .before .before .before) .records) (now (c .before .before .before .before .before .before .before .before .before .before .before .before .args .faults)))
     (sym (c .before .before .before .read-faults .ensures (sheet-rows (c .before .before .before .before .before) .records) (sheet-marks (c .before .before .before .before .before))) ∙ c .before .enum-told2 .given .1) in
     rw (sheet-rows (c .before .before .before .before .before) .read, list .read) (record { bytes = refl; begins = refl })
 
@@ -107,6 +112,7 @@ pub faulty-row-spec : {M : Type 1} → statement M
 faulty-row-spec =
     tie.close
     (tie.spec
+    no-port-used-requires
     read-sheet-requires
     enum-known-told
     add-result

@@ -1,3 +1,4 @@
+-- `are_within` answers both range tests, the second only where the first passes.
 use mathlib.Core.Path.{sym, _∙_}
 use borrow.Author.Needs.{needs}
 use Rattle.sheet.proofs.ranges.are_within.Statement.{statement}

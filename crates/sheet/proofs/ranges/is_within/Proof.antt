@@ -1,3 +1,4 @@
+-- `is_within` answers `within`: below 1 it is false, and else the second test decides.
 use borrow.Author.Tests.{le-leb, lt-leb}
 use Rattle.sheet.proofs.ranges.is_within.Statement.{statement}
 use Rattle.sheet.proofs.ranges.is_within.Tie as tie

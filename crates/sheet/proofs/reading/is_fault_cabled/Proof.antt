@@ -1,3 +1,4 @@
+-- `is_fault_cabled` looks a fault's two bytes up in the table of used ports, which marks just the rows' ports.
 use Rattle.sheet.specs.Cables.{cabled}
 use mathlib.Core.Path.{ap₂, _∙_}
 use borrow.Author.Needs.{needs}

@@ -1,3 +1,4 @@
+-- `judge_row` answers `rowRule`: its tests come in the rule's order, and the table of used ports stands for the rows before.
 use mathlib.Core.Path.{sym, _∙_}
 use borrow.Author.Tests.{eq-eqb, ne-eqb, not-true, not-false}
 use Rattle.sheet.specs.Cables.{rowRule}

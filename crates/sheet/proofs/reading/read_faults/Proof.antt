@@ -1,10 +1,10 @@
-use Prim.Native.Nat.{_≤_}
+-- The fault list's loop, as the rows' loop: whatever rows the table marks, the faults so far were right and the rest decides.
+use Prim.Native.Nat.{_≤_, _-_}
 use mathlib.Core.Path.{sym, ap, _∙_}
 use borrow.Author.Tests.{not-true, not-false}
 use native.Mathlib.Omega.{arith}
 use borrow.Author.Needs.{needs}
 use denote.Ref.{now}
-use Prim.Native.Nat.{_-_}
 use mathlib.Core.List.{List, []}
 use lib.Arith.{lt-of-le-ne}
 use Rattle.sheet.specs.Records.{fault}

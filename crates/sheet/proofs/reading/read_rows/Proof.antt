@@ -1,11 +1,12 @@
+-- The rows' loop: so far all rows were right and the table marks their ports, and the rest comes to what the whole comes to
+-- (proofs/Through.antt). Each way out is one law of the scan.
 use lib.Arith.{lt-of-le-ne}
 use Rattle.sheet.proofs.Rows.{row-fine}
 use Rattle.sheet.specs.Sound.{RowInRange}
-use Rattle.sheet.proofs.Through.{right-one, never-right}
+use Rattle.sheet.proofs.Through.{right-one, never-right, Through, through-start, through-right, through-ended, through-kind, through-cut, through-full, through-breaks, through-fine}
 use Rattle.sheet.proofs.Scan.{found-is}
 use Rattle.sheet.specs.Told.{toldOf}
-use mathlib.Core.Path.{subst}
-use mathlib.Core.Path.{sym, ap, _∙_}
+use mathlib.Core.Path.{subst, sym, ap, _∙_}
 use native.Mathlib.Omega.{arith}
 use borrow.Author.Needs.{needs}
 use denote.Ref.{now}
@@ -16,7 +17,6 @@ use Rattle.sheet.specs.Cables.{cableAt, rowRule}
 use Rattle.sheet.specs.Used.{Marks}
 use Rattle.sheet.specs.declared.cables.Cable.{Cable}
 use Rattle.sheet.specs.declared.rules.Rule.the-variants.{SheetForm}
-use Rattle.sheet.proofs.Through.{Through, through-start, through-right, through-ended, through-kind, through-cut, through-full, through-breaks, through-fine}
 use Rattle.sheet.proofs.reading.read_rows.Statement.{statement}
 use Rattle.sheet.proofs.reading.read_rows.Tie as tie
 

@@ -1,4 +1,5 @@
-use Rattle.sheet.specs.Records.{recordAt, front, row, scan, right, wrong}
+-- `read_sheet` answers the sheet's reading: the front record decides, or the rows after it do.
+use Rattle.sheet.specs.Records.{recordAt, front, row, scan, wrong}
 use mathlib.Core.Bool.{true, false}
 use mathlib.Core.List.{List, []}
 use Prim.Native.Nat.{ℕ}

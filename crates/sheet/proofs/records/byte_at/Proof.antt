@@ -1,3 +1,4 @@
+-- `byte_at` is `getD` with 0: past the end it answers what `getD` answers there.
 use mathlib.Core.Path.{sym}
 use lib.ListN.{List·getD-eq-default}
 use denote.Ref.{now}

@@ -1,3 +1,4 @@
+-- `form_of` reads the table of kinds: a kind past it has the form of kind 0, which stands nowhere.
 use mathlib.Core.Path.{sym, refl}
 use lib.ListN.{List·getD-eq-default}
 use Rattle.sheet.specs.Records.{form, forms, formOf}

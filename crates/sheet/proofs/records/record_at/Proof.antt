@@ -1,3 +1,4 @@
+-- The record walker: at each return the tests that led there are the fields of what stands at the position, which fixes `recordAt`.
 use mathlib.Core.Path.{_≡_, sym, ap, _∙_}
 use native.Mathlib.Omega.{arith}
 use Rattle.sheet.proofs.Scan.{record-ended, record-kind, record-cut, record-whole}

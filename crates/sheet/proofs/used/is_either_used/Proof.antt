@@ -1,3 +1,4 @@
+-- `is_either_used` asks after both ends, the second only where the first is free.
 use mathlib.Core.Path.{sym, _∙_}
 use borrow.Author.Needs.{needs}
 use Rattle.sheet.proofs.used.is_either_used.Statement.{statement}

@@ -1,3 +1,4 @@
+-- `is_used` answers `marked`: a port in range is marked if its bit is set, and one out of range is not.
 use Rattle.sheet.proofs.Rows.{decides-within}
 use Rattle.sheet.specs.Sound.{Within}
 use mathlib.Core.Path.{sym, _∙_}

@@ -1,3 +1,4 @@
+-- `use_cable` marks both ends of a row, so that a table which marks some rows then marks one row more.
 use Rattle.sheet.proofs.Marking.{marks-snoc}
 use denote.Ref.{now}
 use borrow.Author.Needs.{needs}

@@ -1,3 +1,4 @@
+-- `use_port` sets one bit of one number, which marks that port and no other.
 use borrow.Author.Needs.{needs}
 use lib.ListN.{length-set}
 use Rattle.sheet.proofs.Marking.{mark-port}

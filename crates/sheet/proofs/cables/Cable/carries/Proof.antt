@@ -1,3 +1,4 @@
+-- `Cable::carries` answers `carries`: the near end settles it, or the far end does.
 use mathlib.Core.Path.{sym, _∙_}
 use borrow.Author.Needs.{needs}
 use Rattle.sheet.proofs.cables.Cable.carries.Statement.{statement}

@@ -1,3 +1,4 @@
+-- `End::is_at` answers `isAt`: both numbers are compared, the second only where the first agrees.
 use borrow.Author.Tests.{eq-eqb, ne-eqb}
 use borrow.Author.Needs.{needs}
 use Rattle.sheet.proofs.cables.End.is_at.Statement.{statement}
