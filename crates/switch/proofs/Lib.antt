@@ -1,0 +1,12 @@
+pub mod Choosing
+pub mod Failing
+pub mod Blank
+pub mod Walking
+pub mod Moving
+pub mod Passing
+pub mod Stepping
+pub mod Exactly
+pub mod Tag
+pub mod Rebuilding
+pub mod OneAnswer
+pub mod Advancing

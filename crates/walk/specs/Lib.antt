@@ -1,0 +1,4 @@
+pub mod Network
+pub mod Walk
+pub mod Condition3
+pub mod Cases

@@ -1,0 +1,2 @@
+// The walk: steps until an end.
+pub mod walk;
