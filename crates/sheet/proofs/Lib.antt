@@ -12,6 +12,7 @@ pub mod Accepted
 pub mod Exactly
 pub mod Through
 pub mod Telling
+pub mod Parts
 pub mod Marking
 pub mod Ordering
 pub mod Cabling
@@ -19,7 +20,8 @@ pub mod Rebuilding
 pub mod RebuiltSheet
 pub mod Stopping
 pub mod Faulting
-pub mod Listing
+pub mod Places
+pub mod Taking
 pub mod Inserting
 pub mod Gathering
 pub mod Searching

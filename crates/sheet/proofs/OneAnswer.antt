@@ -6,7 +6,9 @@ use mathlib.Core.List.{List}
 use denote.Ref.{RefT, now}
 use native.Mathlib.Omega.{arith}
 use Rattle.sheet.specs.Refusals.{answerOf}
-use Rattle.sheet.specs.FaultyRow.{Part, ofSheet, ofFaults, IsPart}
+use Rattle.sheet.specs.FaultyRow.{PartOf, IsPart}
+use Rattle.sheet.specs.declared.check.Part.{Part}
+use Rattle.sheet.specs.declared.check.Part.the-variants.{OfSheet, OfFaults}
 use Rattle.sheet.specs.declared.check.Checked.{Checked}
 use Rattle.sheet.specs.declared.check.Checked.the-variants.{Accepted, Refused}
 
@@ -20,5 +22,5 @@ one-check (Refused number) (Refused number′) e = cc
 -- the faulty row: the same bytes at the same place
 module _ (sheet faults r r′ : RefT (List ℕ)) where
   pub one-row : (part : Part) → IsPart sheet faults part r → IsPart sheet faults part r′ → (now r ≡ now r′) × (r .ptr ≡ r′ .ptr)
-  one-row (ofSheet start size) p q = (p .bytes ∙ sym (q .bytes), p .begins ∙ sym (q .begins))
-  one-row (ofFaults start size) p q = (p .bytes ∙ sym (q .bytes), p .begins ∙ sym (q .begins))
+  one-row (OfSheet start size) p q = (p .bytes ∙ sym (q .bytes), p .begins ∙ sym (q .begins))
+  one-row (OfFaults start size) p q = (p .bytes ∙ sym (q .bytes), p .begins ∙ sym (q .begins))

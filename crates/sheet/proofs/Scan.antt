@@ -1,14 +1,14 @@
 -- The walker and the scan as laws, so that no other file opens `recordAt`, `scan` or `wholes`. The walker's answer is exactly what stands
 -- at the position, since each of its tests decides one field; a scan is a chain of steps, each named by what the walker finds.
 use Prim.Native.Nat.{ℕ, zero, suc, _+_, _-_, _≤_, _<_}
-use mathlib.Core.Path.{_≡_, refl, sym, subst}
-use mathlib.Core.List.{List, [], _∷_, _++_, append-assoc, append-nil}
+use mathlib.Core.Path.{_≡_, refl, ap, sym, subst}
+use mathlib.Core.List.{List, [], _∷_, _++_, map, append-assoc, append-nil}
 use mathlib.Core.Bool.{Bool, true, false}
 use native.Mathlib.Omega.{arith}
 use lib.ListN.{length}
 use lib.Dec.{leb, eqb}
 use borrow.Author.Tests.{leb-true, leb-false, eqb-true, eqb-false, le-leb, lt-leb, eq-eqb, ne-eqb}
-use Rattle.sheet.specs.Records.{recordAt, Reading, right, wrong, scan, wholes}
+use Rattle.sheet.specs.Records.{recordAt, Reading, right, wrong, scan, goOn, wholes}
 use Rattle.sheet.specs.Standing.{formAt, Whole, OtherKind, Cut}
 use Rattle.sheet.specs.declared.records.Place.{Place}
 use Rattle.sheet.specs.declared.records.Found.{Found}
@@ -190,6 +190,20 @@ module _ {A : Type 0} (place : Place) (read : List ℕ → ℕ → A) (s : List 
   wholes-stop (suc room) at WrongKind other e = rw e
   wholes-stop (suc room) at CutShort other e = rw e
   wholes-stop (suc room) at Ended other e = rw e
+
+  -- to read the records is to read at the position of each
+  pub wholes-read : (room at : ℕ) → map (read s) (wholes place (λ t start. start) room s at) ≡ wholes place read room s at
+  unfolding wholes
+  wholes-read zero at = refl
+  wholes-read (suc room) at = go (recordAt place s at) (λ next. wholes-read room next)
+    where
+      go : (found : Found) → ((next : ℕ) → map (read s) (wholes place (λ t start. start) room s next) ≡ wholes place read room s next)
+          → map (read s) (goOn found (λ next. at ∷ wholes place (λ t start. start) room s next))
+          ≡ goOn found (λ next. read s at ∷ wholes place read room s next)
+      go (Record next) rest = ap {B = List A} (λ records. read s at ∷ records) (rest next)
+      go WrongKind rest = refl
+      go CutShort rest = refl
+      go Ended rest = refl
 
 module _ {A : Type 0} (place : Place) (broken : Rule) (read : List ℕ → ℕ → A) (check : List A → A → Verdict) (s : List ℕ) where
   -- a scan that finds nothing wrong has read every whole record

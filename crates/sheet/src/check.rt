@@ -50,18 +50,34 @@ pub fn check_faults(sheet: &[u8], faults: &[u8]) -> Checked
     Checked::Accepted(n, cables)
 }
 
-// The first wrong record as it stands in the caller's bytes; the empty part at the sheet's front where nothing is wrong.
-pub fn faulty_row<'a>(sheet: &'a [u8], faults: &'a [u8]) -> &'a [u8]
-    ensures { λ r. ⌜ IsPart (sheet .entry) (faults .entry) (faultyPart (now (sheet .entry)) (now (faults .entry))) r ⌝ }
+// Where the first wrong record stands: its start and its length. The empty part at the sheet's front where nothing is wrong.
+pub enum Part {
+    OfSheet(usize, usize),
+    OfFaults(usize, usize),
+}
+
+pub fn faulty_part(sheet: &[u8], faults: &[u8]) -> Part
+    ensures { λ r. ⌜ r ≡ faultyPart (now (sheet .entry)) (now (faults .entry)) ⌝ }
 {
     let mut used = no_port_used();
     let told = read_sheet(sheet, &mut used);
     if let Told::Wrong(_, start, size) = told {
-        return &sheet[start..start + size];
+        return Part::OfSheet(start, size);
     }
     let list = read_faults(faults, &used);
     if let Told::Wrong(_, start, size) = list {
-        return &faults[start..start + size];
+        return Part::OfFaults(start, size);
     }
-    &sheet[0..0]
+    Part::OfSheet(0, 0)
+}
+
+// The first wrong record as it stands in the caller's bytes.
+pub fn faulty_row<'a>(sheet: &'a [u8], faults: &'a [u8]) -> &'a [u8]
+    ensures { λ r. ⌜ IsPart (sheet .entry) (faults .entry) (faultyPart (now (sheet .entry)) (now (faults .entry))) r ⌝ }
+{
+    let part = faulty_part(sheet, faults);
+    match part {
+        Part::OfSheet(start, size) => &sheet[start..start + size],
+        Part::OfFaults(start, size) => &faults[start..start + size],
+    }
 }

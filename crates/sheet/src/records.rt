@@ -62,11 +62,17 @@ pub fn byte_at(bytes: &[u8], at: usize) -> u8
     if at < bytes.len() { bytes[at] } else { 0 }
 }
 
+// Each entry is read at a fixed index: an index that is computed would have the whole table copied to the stack at every record.
 pub fn form_of(kind: u8) -> Form
     ensures { λ r. ⌜ r ≡ formOf kind ⌝ }
 {
-    let k = kind as usize;
-    if k < 5 { FORMS[k] } else { FORMS[0] }
+    match kind {
+        1 => FORMS[1],
+        2 => FORMS[2],
+        3 => FORMS[3],
+        4 => FORMS[4],
+        _ => FORMS[0],
+    }
 }
 
 // The record walker: what stands at a position, for one place of the format.

@@ -7,7 +7,7 @@ use mathlib.Core.Logic.{_⊎_, inl, inr}
 use mathlib.Core.Bool.{Bool, true, false, not}
 use native.Mathlib.Omega.{arith}
 use lib.ListN.{length, getD, take, set, length-set, List·getD-append}
-use lib.Seq.{getD-set-same, getD-set-other, set-append-left}
+use lib.Seq.{set-append-left}
 use lib.Dec.{eqb}
 use borrow.Author.Tests.{eqb-true, eqb-false, eq-eqb, le-leb, not-true}
 use Rattle.sheet.specs.Lists.{pick, both, either, any, _∈_}
@@ -23,39 +23,23 @@ use Rattle.sheet.proofs.Cabling.{portOf}
 use Rattle.switch.specs.Choice.{Outcome, leaves, stays, choose, Chosen}
 use Rattle.switch.specs.Cell.{cellOf, withCell, entered, leftBy}
 use Rattle.switch.specs.Answers.{paper}
-use Rattle.switch.specs.Checks.{checks}
+use Rattle.switch.specs.Checks.{nonzero, checks}
 use Rattle.switch.specs.Step.{Stepped, stopped, farOf, moved, advanced, unless, stepped}
 use Rattle.switch.specs.declared.cell.Cell.{Cell}
 use Rattle.switch.specs.declared.checks.Check.the-variants.{Passed}
 use Rattle.switch.proofs.Choosing.{chosen}
+use Rattle.switch.proofs.Tag.{length-with, with-other, cell-with}
 use Rattle.switch.proofs.Stepping.{Advances, delivered, undelivered, forwarded, advances, stepped-accepted}
 
 -- ---- one cell of a tag
 
-module _ (tag : List ℕ) (v : ℕ) (cell : Cell) (low : 1 ≤ v) where
-  cell-kept : (w : ℕ) → 1 ≤ w → (w ≡ v → ⊥) → cellOf (withCell tag v cell) w ≡ cellOf tag w
-  cell-kept w above other =
-      (λ i. record {
-        parent = record { 0 = same (2 * (w - 1)) (λ e. omega arith) (λ e. omega arith) i };
-        current = record { 0 = same (2 * (w - 1) + 1) (λ e. omega arith) (λ e. omega arith) i };
-      })
-    where
-      same : (k : ℕ) → (k ≡ 2 * (v - 1) → ⊥) → (k ≡ 2 * (v - 1) + 1 → ⊥) → getD (withCell tag v cell) k 0 ≡ getD tag k 0
-      same k not-first not-second =
-          getD-set-other (set tag (2 * (v - 1)) (cell .parent .0)) (2 * (v - 1) + 1) k (cell .current .0) 0 not-second
-          ∙ getD-set-other tag (2 * (v - 1)) k (cell .parent .0) 0 not-first
-
-  cell-written : 2 * v ≤ length tag → cellOf (withCell tag v cell) v ≡ cell
-  cell-written inside = (λ i. record { parent = record { 0 = parent i }; current = record { 0 = current i } })
-    where
-      parent : getD (withCell tag v cell) (2 * (v - 1)) 0 ≡ cell .parent .0
-      parent =
-          getD-set-other (set tag (2 * (v - 1)) (cell .parent .0)) (2 * (v - 1) + 1) (2 * (v - 1)) (cell .current .0) 0 (λ e. omega arith)
-          ∙ getD-set-same tag (2 * (v - 1)) (cell .parent .0) 0 (omega arith)
-
-      current : getD (withCell tag v cell) (2 * (v - 1) + 1) 0 ≡ cell .current .0
-      current =
-          getD-set-same (set tag (2 * (v - 1)) (cell .parent .0)) (2 * (v - 1) + 1) (cell .current .0) 0 (simp length-set (omega arith))
+cell-kept : (tag : List ℕ) (v : ℕ) (cell : Cell) → 1 ≤ v → (w : ℕ) → 1 ≤ w → (w ≡ v → ⊥)
+    → cellOf (withCell tag v cell) w ≡ cellOf tag w
+cell-kept tag v cell low w above other =
+    (λ i. record {
+      parent = record { 0 = with-other tag v cell (2 * (w - 1)) (λ e. omega arith) (λ e. omega arith) i };
+      current = record { 0 = with-other tag v cell (2 * (w - 1) + 1) (λ e. omega arith) (λ e. omega arith) i };
+    })
 
 -- ---- how an advance comes out
 
@@ -101,11 +85,12 @@ module _ (rows : List Cable) (f tag : List ℕ) (v arrival d : ℕ) where
           current = current;
           choice = choice-there e;
           far = refl;
-          there = λ low inside. cell-written tag v (leftBy cell current) low inside;
+          there = λ low inside. cell-with tag v (leftBy cell current) (omega arith);
           others = λ low. cell-kept tag v (leftBy cell current) low;
         }
 
-    pub forwards : advanced (portOrder rows v) f tag v arrival d .paper .end ≡ 0 → Forwards (advanced (portOrder rows v) f tag v arrival d)
+    pub forwards : advanced (portOrder rows v) f tag v arrival d .paper .end ≡ 0
+        → Forwards (advanced (portOrder rows v) f tag v arrival d)
     forwards = forwards-so (advances (portOrder rows v) f tag v arrival d)
 
     ends-so : {step : Stepped} → Advances (portOrder rows v) f tag v arrival d step → (step .paper .end ≡ 0 → ⊥) → Ends step
@@ -123,17 +108,17 @@ abbrev pub followedBy : List ℕ → Stepped → Stepped
 followedBy rest step = record { paper = step .paper; far = step .far; tag = step .tag ++ rest }
 
 module _ (order : List Cable) (f tag : List ℕ) (v arrival d : ℕ) where
-  pub tag-length : length (advanced order f tag v arrival d .tag) ≡ length tag
-  tag-length = so (advances order f tag v arrival d)
+  pub advanced-length : length (advanced order f tag v arrival d .tag) ≡ length tag
+  advanced-length = so (advances order f tag v arrival d)
     where
       so : {step : Stepped} → Advances order f tag v arrival d step → length (step .tag) ≡ length tag
       so (delivered e) = refl
       so (undelivered away e) = refl
-      so (forwarded away e) = simp length-set
+      so (forwarded away {port} {current} e) = length-with tag v (leftBy (cellThen tag v arrival) current)
 
   -- a step that does not forward leaves the tag as it came
-  pub tag-kept : (advanced order f tag v arrival d .paper .end ≡ 0 → ⊥) → advanced order f tag v arrival d .tag ≡ tag
-  tag-kept = so (advances order f tag v arrival d)
+  pub advanced-keeps : (advanced order f tag v arrival d .paper .end ≡ 0 → ⊥) → advanced order f tag v arrival d .tag ≡ tag
+  advanced-keeps = so (advances order f tag v arrival d)
     where
       so : {step : Stepped} → Advances order f tag v arrival d step → (step .paper .end ≡ 0 → ⊥) → step .tag ≡ tag
       so (delivered e) z = refl
@@ -203,14 +188,14 @@ module _ (n : ℕ) (order : List Cable) (f tag : List ℕ) (v arrival d : ℕ) w
       usable p (inl e) = rw (eq-eqb p 0 e)
       usable p (inr t) = rw t (either-swap (eqb p 0) true)
 
-      fresh-tag : either (not (eqb arrival 0)) (not (any (λ b. not (eqb b 0)) (take (2 * n) tag))) ≡ true
-      fresh-tag = by (eqb arrival 0) refl (any (λ b. not (eqb b 0)) (take (2 * n) tag)) refl
+      fresh-tag : either (not (eqb arrival 0)) (not (any nonzero (take (2 * n) tag))) ≡ true
+      fresh-tag = by (eqb arrival 0) refl (any nonzero (take (2 * n) tag)) refl
         where
-          by : (a : Bool) → eqb arrival 0 ≡ a → (b : Bool) → any (λ b. not (eqb b 0)) (take (2 * n) tag) ≡ b → either (not a) (not b) ≡ true
+          by : (a : Bool) → eqb arrival 0 ≡ a → (b : Bool) → any nonzero (take (2 * n) tag) ≡ b → either (not a) (not b) ≡ true
           by false e b e′ = refl
           by true e false e′ = refl
           by true e true e′ =
-              let (b, at, t) = any-found (λ b. not (eqb b 0)) (take (2 * n) tag) e′ in
+              let (b, at, t) = any-found nonzero (take (2 * n) tag) e′ in
               absurd (eqb-false b 0 (not-true (eqb b 0) t) (h .fresh (eqb-true arrival 0 e) b at))
 
       cell-usable : (cellOf tag v .current .0 ≡ 0) ⊎ (isCabled (cellOf tag v .current .0) order ≡ true)

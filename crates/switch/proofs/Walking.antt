@@ -1,23 +1,21 @@
 -- The choice as a walk over the places of a port order: a cable that is not open leaves the choice to the cables after it, an open one
 -- decides, and past the last the parent does.
-use Prim.Native.Nat.{ℕ, zero, suc, _+_, _*_, _/_, _≤_, _<_}
+use Prim.Native.Nat.{ℕ, suc, _+_, _*_, _/_, _≤_, _<_}
 use mathlib.Core.Path.{_≡_, refl, ap, sym, _∙_}
 use mathlib.Core.List.{List, [], _∷_}
 use mathlib.Core.Bool.{Bool, true, false, not}
 use native.Mathlib.Omega.{arith}
 use native.Mathlib.Numerals.{add-one}
-use lib.ListN.{length, getD, take, drop, drop-of-length-le, length-take}
+use lib.ListN.{length, drop, drop-of-length-le, length-map}
 use lib.Seq.{drop-cons}
 use lib.Dec.{leb, eqb}
 use borrow.Author.Tests.{leb-true, le-leb, eq-eqb, ne-eqb}
 use Rattle.sheet.specs.Lists.{pick, both}
 use Rattle.sheet.specs.Cables.{Socket}
 use Rattle.sheet.specs.Faults.{live}
-use Rattle.sheet.specs.Order.{positionOf, noCable, listOf}
+use Rattle.sheet.specs.Order.{positionOf, cableOf, noCable, placedCable, cablesAt}
 use Rattle.sheet.specs.declared.cables.Cable.{Cable}
-use Rattle.sheet.specs.declared.order.PortOrder.{PortOrder}
 use Rattle.sheet.proofs.Lists.{same-test}
-use Rattle.sheet.proofs.Searching.{cable-inside}
 use Rattle.switch.specs.Choice.{leaves, stays, outcomeOf, Storable, byParent, firstOpen}
 use Rattle.switch.specs.declared.choice.Choice.{Choice}
 use Rattle.switch.specs.declared.choice.Choice.the-variants.{Leaves, Stays}
@@ -31,10 +29,6 @@ position-within p (c ∷ order) = go (eqb (c .near .port) p) (position-within p 
     go : (b : Bool) → positionOf p order ≤ length order → pick b 0 (1 + positionOf p order) ≤ suc (length order)
     go true h = omega arith
     go false h = omega arith
-
--- the length of an order whose array has 48 places
-pub list-length : (order : PortOrder) → length (order .cables) ≡ 48 → length (listOf order) ≤ 48
-list-length order places = omega (arith, length-take (order .count) (order .cables))
 
 abbrev pub isOpen : List Socket → ℕ → Cable → Bool
 isOpen faults parent c = both (live faults c) (not (eqb (c .near .port) parent))
@@ -56,44 +50,35 @@ other-open faults parent c other e = e ∙ rw (ne-eqb (c .near .port) parent oth
     go true = refl
     go false = refl
 
-take-length : {A : Type 0} (k : ℕ) (xs : List A) → take (length (take k xs)) xs ≡ take k xs
-take-length zero xs = refl
-take-length (suc k) [] = refl
-take-length (suc k) (x ∷ xs) = ap {B = List _} (λ rest. x ∷ rest) (take-length k xs)
+-- the choice from one position is the choice from another
+pub record From (order : List Cable) (faults : List Socket) (parent current from i : ℕ) : Type 0 where
+  pub same : firstOpen faults parent current (drop from order) ≡ firstOpen faults parent current (drop i order)
 
--- in the first `size` places, the choice from one position is the choice from another
-pub record From (cables : List Cable) (size : ℕ) (faults : List Socket) (parent current from i : ℕ) : Type 0 where
-  pub same :
-      firstOpen faults parent current (drop from (take size cables)) ≡ firstOpen faults parent current (drop i (take size cables))
+module _ (s places : List ℕ) {faults : List Socket} {parent current from i : ℕ}
+    (walked : From (cablesAt s places) faults parent current from i) where
+  abbrev order : List Cable
+  order = cablesAt s places
 
-module _ (order : PortOrder) {size : ℕ} (sized : size ≡ length (listOf order)) {faults : List Socket} {parent current from i : ℕ}
-    (walked : From (order .cables) size faults parent current from i) where
-  abbrev there : Cable
-  there = getD (order .cables) i noCable
+  ahead : {c : Cable} → i < length places → c ≡ cableOf i order → drop i order ≡ c ∷ drop (i + 1) order
+  ahead more read =
+      drop-cons order i noCable (omega (arith, length-map places (placedCable s)))
+      ∙ sym (λ k. read k ∷ drop (add-one i k) order)
 
-  places : take size (order .cables) ≡ listOf order
-  places = ap (λ n. take n (order .cables)) sized ∙ take-length (order .count) (order .cables)
-
-  ahead : i < size → drop i (listOf order) ≡ there ∷ drop (i + 1) (listOf order)
-  ahead more =
-      drop-cons (listOf order) i noCable (omega arith)
-      ∙ sym (λ k. cable-inside order sized i more k ∷ drop (add-one i k) (listOf order))
-
-  here : firstOpen faults parent current (drop from (listOf order)) ≡ firstOpen faults parent current (drop i (listOf order))
-  here = rw places at (walked .same)
-
-  pub open-next : i < size → isOpen faults parent there ≡ false → From (order .cables) size faults parent current from (i + 1)
+  pub open-next : {c : Cable} → i < length places → c ≡ cableOf i order → isOpen faults parent c ≡ false
+      → From order faults parent current from (i + 1)
   unfolding firstOpen
-  open-next more shut = record { same = rw places (here ∙ ap (firstOpen faults parent current) (ahead more) ∙ rw shut) }
+  open-next more read shut = record { same = walked .same ∙ ap (firstOpen faults parent current) (ahead more read) ∙ rw shut }
 
-  pub open-found : i < size → isOpen faults parent there ≡ true
-      → leaves (there .near .port) (there .near .port) ≡ firstOpen faults parent current (drop from (listOf order))
+  pub open-found : {c : Cable} → i < length places → c ≡ cableOf i order → isOpen faults parent c ≡ true
+      → leaves (c .near .port) (c .near .port) ≡ firstOpen faults parent current (drop from order)
   unfolding firstOpen
-  open-found more free = sym (here ∙ ap (firstOpen faults parent current) (ahead more) ∙ rw free)
+  open-found more read free = sym (walked .same ∙ ap (firstOpen faults parent current) (ahead more read) ∙ rw free)
 
-  pub open-none : size ≤ i → byParent parent current ≡ firstOpen faults parent current (drop from (listOf order))
+  pub open-none : length places ≤ i → byParent parent current ≡ firstOpen faults parent current (drop from order)
   unfolding firstOpen
-  open-none over = sym (here ∙ ap (firstOpen faults parent current) (drop-of-length-le (listOf order) {i = i} (omega arith)))
+  open-none over =
+      let past : length order ≤ i = omega (arith, length-map places (placedCable s)) in
+      sym (walked .same ∙ ap (firstOpen faults parent current) (drop-of-length-le order {i = i} past))
 
 -- what by-parent answers can be stored where the current port can
 pub by-parent-storable : (choice : Choice) (parent current : ℕ) → outcomeOf choice ≡ byParent parent current → current < 256

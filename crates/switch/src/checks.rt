@@ -6,12 +6,13 @@ ghost use lib.ListN.{take};
 ghost use lib.Dec.{eqb};
 ghost use Rattle.sheet.specs.Lists.{both, either, any};
 ghost use Rattle.sheet.specs.Cables.{within};
-ghost use Rattle.sheet.specs.Order.{isCabled, isLive, listOf};
+ghost use Rattle.sheet.specs.Order.{isCabled, isLive, cablesAt};
 ghost use Rattle.switch.specs.Checks.{numberOf, rule, nonzero, switchesRule, tagRule, arrivalRule, freshRule, cellRule};
 use crate::cell::Cell;
 use sheet::numbers::Port;
 use sheet::numbers::Switch;
-use sheet::order::PortOrder;
+use sheet::order::is_cabled;
+use sheet::order::is_live;
 
 // What a check comes to.
 pub enum Check {
@@ -75,20 +76,21 @@ pub fn check_tag(n: u64, tag: &[u8]) -> Check
 }
 
 // No port, or a live one.
-fn is_none_or_live(order: PortOrder, faults: &[u8], p: Port) -> bool
-    ensures { λ r. ⌜ r ≡ either (eqb (p .0) 0) (isLive (now (faults .entry)) (p .0) (listOf order)) ⌝ }
+fn is_none_or_live(sheet: &[u8], order: &[u16], faults: &[u8], p: Port) -> bool
+    ensures { λ r. ⌜ r ≡ either (eqb (p .0) 0)
+        (isLive (now (faults .entry)) (p .0) (cablesAt (now (sheet .entry)) (now (order .entry)))) ⌝ }
 {
     if p.0 == 0 {
         return true;
     }
-    order.is_live(p, faults)
+    is_live(sheet, order, p, faults)
 }
 
 // 8: arrival port is not 0 and is not a cabled port of this switch, or its cable is dead.
-pub(crate) fn check_arrival(order: PortOrder, faults: &[u8], arrival: Port) -> Check
-    ensures { λ r. ⌜ r ≡ arrivalRule (listOf order) (now (faults .entry)) (arrival .0) ⌝ }
+pub(crate) fn check_arrival(sheet: &[u8], order: &[u16], faults: &[u8], arrival: Port) -> Check
+    ensures { λ r. ⌜ r ≡ arrivalRule (cablesAt (now (sheet .entry)) (now (order .entry))) (now (faults .entry)) (arrival .0) ⌝ }
 {
-    rule(8, is_none_or_live(order, faults, arrival))
+    rule(8, is_none_or_live(sheet, order, faults, arrival))
 }
 
 // Whether the first bytes of a tag are all 0.
@@ -126,24 +128,26 @@ pub(crate) fn check_fresh(n: u64, tag: &[u8], arrival: Port) -> Check
 }
 
 // No current port; or it is cabled here, and the parent is 0 or live. A dead current port is no fault.
-fn is_sane(order: PortOrder, faults: &[u8], cell: Cell) -> bool
-    ensures { λ r. ⌜ r ≡ either (eqb (cell .current .0) 0) (both (isCabled (cell .current .0) (listOf order))
-        (either (eqb (cell .parent .0) 0) (isLive (now (faults .entry)) (cell .parent .0) (listOf order)))) ⌝ }
+fn is_sane(sheet: &[u8], order: &[u16], faults: &[u8], cell: Cell) -> bool
+    ensures { λ r. ⌜ r ≡ either (eqb (cell .current .0) 0)
+        (both (isCabled (cell .current .0) (cablesAt (now (sheet .entry)) (now (order .entry))))
+        (either (eqb (cell .parent .0) 0)
+        (isLive (now (faults .entry)) (cell .parent .0) (cablesAt (now (sheet .entry)) (now (order .entry)))))) ⌝ }
 {
     let current = cell.current;
     let parent = cell.parent;
     if current.0 == 0 {
         return true;
     }
-    if order.is_cabled(current) {
-        return is_none_or_live(order, faults, parent);
+    if is_cabled(sheet, order, current) {
+        return is_none_or_live(sheet, order, faults, parent);
     }
     false
 }
 
 // 10: current port not 0, and either it is not cabled here, or the parent is not 0 and is uncabled here or dead.
-pub(crate) fn check_cell(order: PortOrder, faults: &[u8], cell: Cell) -> Check
-    ensures { λ r. ⌜ r ≡ cellRule (listOf order) (now (faults .entry)) cell ⌝ }
+pub(crate) fn check_cell(sheet: &[u8], order: &[u16], faults: &[u8], cell: Cell) -> Check
+    ensures { λ r. ⌜ r ≡ cellRule (cablesAt (now (sheet .entry)) (now (order .entry))) (now (faults .entry)) cell ⌝ }
 {
-    rule(10, is_sane(order, faults, cell))
+    rule(10, is_sane(sheet, order, faults, cell))
 }

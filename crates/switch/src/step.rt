@@ -1,6 +1,6 @@
 // One step: the checks, then the published choice.
 ghost use mathlib.Core.Path.{_≡_};
-ghost use Rattle.sheet.specs.Order.{listOf};
+ghost use Rattle.sheet.specs.Order.{cablesAt};
 ghost use Rattle.switch.specs.Answers.{paper, paperOf, movePaper};
 ghost use Rattle.switch.specs.Step.{Ready, awayOf, nowhere, toldMove, told, listsNumber, advanced, stepped};
 use crate::cell::Cell;
@@ -17,7 +17,7 @@ use sheet::check::check_faults;
 use sheet::numbers::Port;
 use sheet::numbers::Switch;
 use sheet::order::FarEnd;
-use sheet::order::PortOrder;
+use sheet::order::far_end;
 use sheet::order::port_order;
 
 // How a step ends.
@@ -65,7 +65,8 @@ fn stopped(go: Move) -> Moved
 // The step after the checks. Rules 1 to 4 of the step: at the destination nothing is read or written; else the cell takes its parent where
 // it has no current port, and the choice says by which port the packet leaves and which port is current from then on.
 pub fn advance(
-    order: PortOrder,
+    sheet: &[u8],
+    order: &[u16],
     faults: &[u8],
     tag: &mut [u8],
     v: Switch,
@@ -74,14 +75,15 @@ pub fn advance(
 ) -> Moved
     requires { ⌜ Ready (now tag) (v .0) (arrival .0) ⌝ }
     ensures { λ r. ⌜ toldMove r (now (tag .exit))
-        ≡ advanced (listOf order) (now (faults .entry)) (now (tag .entry)) (v .0) (arrival .0) (d .0) ⌝ }
+        ≡ advanced (cablesAt (now (sheet .entry)) (now (order .entry))) (now (faults .entry)) (now (tag .entry))
+        (v .0) (arrival .0) (d .0) ⌝ }
 {
     if v.0 == d.0 {
         return stopped(Move::Delivered);
     }
     let found = Cell::read(tag, v);
     let cell = found.entered(arrival);
-    let choice = choose(order, faults, cell);
+    let choice = choose(sheet, order, faults, cell);
     let Choice::Leaves(port, current) = choice else {
         return stopped(Move::Nowhere);
     };
@@ -89,7 +91,7 @@ pub fn advance(
     left.write(tag, v);
     Moved {
         go: Move::Leaves(port),
-        far: order.far_end(port),
+        far: far_end(sheet, order, port),
     }
 }
 
@@ -153,8 +155,10 @@ pub fn step(
     let Check::Passed = long else {
         return refused(long.number());
     };
-    let order = port_order(sheet, present);
-    let arrived = check_arrival(order, faults, arrival);
+    let mut places = [0u16; 48];
+    let count = port_order(sheet, present, &mut places);
+    let order = &places[..count];
+    let arrived = check_arrival(sheet, order, faults, arrival);
     let Check::Passed = arrived else {
         return refused(arrived.number());
     };
@@ -162,9 +166,9 @@ pub fn step(
     let Check::Passed = fresh else {
         return refused(fresh.number());
     };
-    let known = check_cell(order, faults, Cell::read(tag, present));
+    let known = check_cell(sheet, order, faults, Cell::read(tag, present));
     let Check::Passed = known else {
         return refused(known.number());
     };
-    advance(order, faults, tag, present, arrival, destination).answer()
+    advance(sheet, order, faults, tag, present, arrival, destination).answer()
 }

@@ -42,7 +42,7 @@ module _ (c : Case) where
   told-on {n} {cables} lists on tag trace tag-room trace-room =
       let switches = lists-switches (c .sheet) (c .faults) lists in
       let (way, end) =
-          last-ends (c .sheet) (c .faults) (c .destination) (c .source) (lists-sound (c .sheet) (c .faults) lists) (rw switches at (on .0)) in
+      last-ends (c .sheet) (c .faults) (c .destination) (c .source) (lists-sound (c .sheet) (c .faults) lists) (rw switches at (on .0)) in
       arrives
       (premises-pass (c .sheet) (c .faults) tag trace (c .source) (c .destination) (record {
         n = n;
@@ -62,12 +62,14 @@ module _ (c : Case) where
           → both (within n (c .source)) (within n (c .destination)) ≡ b → Holds c (onSheet c b)
       by-sheet {n} lists true on =
           told-on lists
-          (decides-× (within n (c .source)) (within n (c .destination)) (decides-within n (c .source)) (decides-within n (c .destination)) .0 on)
+          (decides-× (within n (c .source)) (within n (c .destination))
+          (decides-within n (c .source)) (decides-within n (c .destination)) .0 on)
       by-sheet lists false off = λ tag trace.
           turnedAway (off-sheet (c .sheet) (c .faults) tag trace (c .source) (c .destination) lists off)
 
       by-answer : (answer : Answer) → listAnswer (c .sheet) (c .faults) ≡ answer → Holds c (onAnswer c answer)
-      by-answer (refused number) e = λ tag trace. turnedAway (lists-refuse (c .sheet) (c .faults) tag trace (c .source) (c .destination) e)
+      by-answer (refused number) e = λ tag trace.
+          turnedAway (lists-refuse (c .sheet) (c .faults) tag trace (c .source) (c .destination) e)
       by-answer (accepted n cables) e = by-sheet e (both (within n (c .source)) (within n (c .destination))) refl
 
 all-told : (list : List Case) → map told list ≡ map (λ c. c .expected) list → All (λ c. Holds c (c .expected)) list

@@ -71,7 +71,8 @@ module _ (s faults tag trace : List ℕ) (source destination : ℕ) where
           refl refl refl h
 
   -- the two refusals that no buffer can change
-  pub lists-refuse : {number : ℕ} → listAnswer s faults ≡ refused number → walkChecks s faults tag trace source destination ≡ Refused number
+  pub lists-refuse : {number : ℕ} → listAnswer s faults ≡ refused number
+      → walkChecks s faults tag trace source destination ≡ Refused number
   unfolding walkChecks
   lists-refuse e = rw e
 

@@ -12,7 +12,8 @@ use Rattle.sheet.specs.Cables.{rowsOf, switchesOf}
 use Rattle.sheet.specs.Sound.{Within, Sound}
 use Rattle.switch.specs.declared.checks.Check.{Check}
 use Rattle.switch.specs.declared.checks.Check.the-variants.{Passed, Refused}
-use Rattle.walk.specs.Walk.{Packet, stepOf, carried, sent, Way, walkChecks, Result, refusedWith, endedWith, Walks, turnedAway, arrives}
+use Rattle.walk.specs.Walk.{Packet, stepOf, carried, sent, Way, walkChecks, Result, refusedWith, endedWith}
+use Rattle.walk.specs.Walk.{Walks, turnedAway, arrives}
 use Rattle.walk.specs.Condition3.{networkOf}
 use Rattle.walk.proofs.SheetNetwork.{sheet-lawful}
 use Rattle.walk.proofs.Following.{follows}
@@ -23,7 +24,8 @@ module _ (s faults : List ℕ) (destination : ℕ) where
   -- carried on while the step forwards it, so many hops at most
   abbrev pub run : ℕ → Packet → Packet
   run zero k = k
-  run (suc fuel) k = elim (eqb (stepOf s faults destination k .paper .end) 0) [ true ↦ run fuel (carried s faults destination k) | false ↦ k ]
+  run (suc fuel) k =
+      elim (eqb (stepOf s faults destination k .paper .end) 0) [ true ↦ run fuel (carried s faults destination k) | false ↦ k ]
 
   abbrev pub lastFrom : ℕ → Packet
   lastFrom source = run (suc (2 * length (rowsOf s))) (sent s faults destination source)
@@ -41,16 +43,19 @@ module _ (s faults : List ℕ) (destination : ℕ) where
         → Last (run fuel k)
     run-last zero k way fits = absurd (omega (arith, way-bound way))
     run-last (suc fuel) k way fits =
-        by (eqb (stepOf s faults destination k .paper .end) 0) refl (λ e more. run-last fuel (carried s faults destination k) (Way.hop way e) more)
+        by (eqb (stepOf s faults destination k .paper .end) 0) refl
+        (λ e more. run-last fuel (carried s faults destination k) (Way.hop way e) more)
       where
         by : (b : Bool) → eqb (stepOf s faults destination k .paper .end) 0 ≡ b
-            → (stepOf s faults destination k .paper .end ≡ 0 → 2 * length (rowsOf s) < fuel + length (carried s faults destination k .trace)
+            → (stepOf s faults destination k .paper .end ≡ 0
+            → 2 * length (rowsOf s) < fuel + length (carried s faults destination k .trace)
             → Last (run fuel (carried s faults destination k)))
             → Last (elim b [ true ↦ run fuel (carried s faults destination k) | false ↦ k ])
         by true e further = further (eqb-true (stepOf s faults destination k .paper .end) 0 e) (simp length-append (omega arith))
         by false e further = (way, eqb-false (stepOf s faults destination k .paper .end) 0 e)
 
-    pub last-ends : Way s faults destination source (lastFrom source) × (stepOf s faults destination (lastFrom source) .paper .end ≡ 0 → ⊥)
+    pub last-ends : Way s faults destination source (lastFrom source)
+        × (stepOf s faults destination (lastFrom source) .paper .end ≡ 0 → ⊥)
     last-ends = run-last (suc (2 * length (rowsOf s))) (sent s faults destination source) Way.start (omega arith)
 
 -- ---- every walk ends: there is a result for all inputs

@@ -12,7 +12,7 @@ use Rattle.sheet.specs.Sound.{Within, Sound}
 use Rattle.switch.specs.Choice.{Outcome, leaves}
 use Rattle.switch.specs.Cell.{cellOf, leftBy}
 use Rattle.switch.specs.Step.{Stepped}
-use Rattle.switch.proofs.Advancing.{cellThen, ChosenThere, Forwards, forwards, tag-length}
+use Rattle.switch.proofs.Advancing.{cellThen, ChosenThere, Forwards, forwards, advanced-length}
 use Rattle.walk.specs.Network.{Cabled}
 use Rattle.walk.specs.Walk.{Packet, stepOf, carried, sent, Way}
 use Rattle.walk.specs.Condition3.{networkOf}
@@ -93,7 +93,8 @@ module _ (s faults : List ℕ) (d source : ℕ) where
             currents-stay = currents-stay;
           }
 
-      run-made : Run (networkOf s faults) source d (travellerOf (carried s faults d k)) (dart (k .at) (step .paper .port) ∷ reverse (k .trace))
+      run-made :
+          Run (networkOf s faults) source d (travellerOf (carried s faults d k)) (dart (k .at) (step .paper .port) ∷ reverse (k .trace))
       run-made = Run.hop (so .run) (how .away) (chosen-at k low (how .choice)) hop-made
 
       cabled : Cabled (networkOf s faults) (dart (k .at) (step .paper .port))
@@ -110,7 +111,7 @@ module _ (s faults : List ℕ) (d source : ℕ) where
       hop-follows =
           record {
             run = rw (reverse-append (k .trace) (dart (k .at) (step .paper .port) ∷ [])) run-made;
-            long = tag-length (orderAt s (k .at)) faults (k .tag) (k .at) (k .arrival) d ∙ so .long;
+            long = advanced-length (orderAt s (k .at)) faults (k .tag) (k .at) (k .arrival) d ∙ so .long;
             on = far-on .0;
             came = inr (far-on .1);
           }

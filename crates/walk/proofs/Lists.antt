@@ -1,5 +1,5 @@
--- Laws of membership, of a list read from its other end, and of counting. The one that carries the sizes: where no element of a list stands in it twice and its
--- counted elements stand in another list, it counts no more than the other, since each takes away one of them.
+-- Laws of membership, of a list read from its other end, and of counting. The one that carries the sizes: where no element of a list
+-- stands in it twice and its counted elements stand in another list, it counts no more than the other, since each takes away one of them.
 use mathlib.Core.Path.{_≡_, refl, sym, ap, subst, _∙_}
 use mathlib.Core.List.{List, [], _∷_, _++_, reverse, reverse-cons, reverse-reverse}
 use mathlib.Core.Bool.{Bool, true, false}

@@ -9,7 +9,8 @@ use native.Mathlib.Decide.{ℕ-discrete}
 use native.Mathlib.Numerals.{add-one}
 use lib.ListN.{length, length-append}
 use Rattle.switch.specs.declared.checks.Check.the-variants.{Passed, Refused}
-use Rattle.walk.specs.Walk.{Packet, stepOf, carried, sent, Way, Paper, ended, paperOf, Result, refusedWith, endedWith, Walks, turnedAway, arrives}
+use Rattle.walk.specs.Walk.{Packet, stepOf, carried, sent, Way, Paper, ended, paperOf, Result, resultOf, refusedWith, endedWith}
+use Rattle.walk.specs.Walk.{Walks, turnedAway, arrives}
 use Rattle.walk.specs.declared.walk.End.{End}
 use Rattle.walk.specs.declared.walk.End.the-variants.{Delivered, None}
 use Rattle.walk.specs.declared.walk.Walked.{Walked}
@@ -53,7 +54,8 @@ module _ (s faults : List ℕ) (destination source : ℕ) where
       by (no n) = absurd (n (omega (arith, not-before way way′ end, not-before way′ way end′)))
 
 module _ {s faults tag trace : List ℕ} {source destination : ℕ} where
-  pub walks-one : {r r′ : Result} → Walks s faults tag trace source destination r → Walks s faults tag trace source destination r′ → r ≡ r′
+  pub walks-one : {r r′ : Result} → Walks s faults tag trace source destination r → Walks s faults tag trace source destination r′
+      → r ≡ r′
   walks-one (turnedAway e) (turnedAway e′) = ap (refusedWith tag trace) (cc)
   walks-one (turnedAway e) (arrives e′ way end) = absurd (passed≢refused e′ e)
   walks-one (arrives e way end) (turnedAway e′) = absurd (passed≢refused e e′)
@@ -93,7 +95,7 @@ paper-one w w′ e =
 -- what the promise of `walk` says of an answer and of both buffers afterwards
 abbrev pub Told : List ℕ → List ℕ → List ℕ → List ℕ → ℕ → ℕ → Walked → List ℕ → List ℕ → Type 0
 Told s faults tag trace source destination w tag′ trace′ =
-    Walks s faults tag trace source destination (record { paper = paperOf w; tag = tag′; trace = trace′ })
+    Walks s faults tag trace source destination (resultOf w tag′ trace′)
 
 pub one-walk : {s faults tag trace : List ℕ} {source destination : ℕ} (w w′ : Walked) {tag′ trace′ tag″ trace″ : List ℕ}
     → Told s faults tag trace source destination w tag′ trace′ → Told s faults tag trace source destination w′ tag″ trace″

@@ -12,7 +12,8 @@ use Rattle.sheet.specs.Rebuilt.{Rebuilt, sheetBytes}
 use Rattle.sheet.specs.declared.cables.Cable.{Cable}
 use Rattle.sheet.proofs.RebuiltSheet.{rebuilt-sheet}
 use Rattle.switch.specs.Step.{Stepped, advanced}
-use Rattle.walk.specs.Walk.{Packet, stepOf, carried, sent, Way, paper, checksOn, walkChecks, traceBytes, Result, endedWith, Walks, turnedAway, arrives}
+use Rattle.walk.specs.Walk.{Packet, stepOf, carried, sent, Way, paper, checksOn, walkChecks, traceBytes, Result, endedWith}
+use Rattle.walk.specs.Walk.{Walks, turnedAway, arrives}
 
 module _ {s s′ : List ℕ} (same : SameCabling s s′) (switches : switchesOf s ≡ switchesOf s′) (faults : List ℕ) (destination : ℕ) where
   step-same : (k : Packet) → stepOf s faults destination k ≡ stepOf s′ faults destination k
@@ -27,7 +28,7 @@ module _ {s s′ : List ℕ} (same : SameCabling s s′) (switches : switchesOf 
             at = step .far .switch;
             arrival = step .far .port;
             tag = step .tag;
-            trace = k .trace ++ (record { switch = k .at; port = step .paper .port } ∷ [])
+            trace = k .trace ++ (record { switch = k .at; port = step .paper .port } ∷ []);
           }
 
   way-same : {source : ℕ} {k : Packet} → Way s faults destination source k → Way s′ faults destination source k
@@ -75,8 +76,7 @@ pub rebuilt-walk : {s : List ℕ} {rows rows′ : List Cable} → AcceptedSheet 
     → Walks s faults tag trace source destination r
     ↔ Walks (sheetBytes (switchesOf s) rows′) faults tag trace source destination r
 rebuilt-walk {s} {rows} {rows′} sheet rebuilt faults tag trace source destination r =
-    let same : SameCabling s (sheetBytes (switchesOf s) rows′) = rebuilt-sheet sheet rebuilt in
-    (
+    let same : SameCabling s (sheetBytes (switchesOf s) rows′) = rebuilt-sheet sheet rebuilt in (
       walks-same same refl faults destination tag trace source,
       walks-same (same-back same) refl faults destination tag trace source,
     )

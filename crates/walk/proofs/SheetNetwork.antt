@@ -73,9 +73,9 @@ module _ (s faults : List ℕ) {n : ℕ} (sound : Sound n (rowsOf s)) where
         far-one = λ c at. found-far (c .near .switch) c (row-there c at);
         far-other = λ c at. found-far (c .far .switch) (turned c) (row-turned c at);
         live-both = λ c at.
-          found-live (c .near .switch) c (row-there c at)
-          ∙ sym (live-both (faultsOf faults) c)
-          ∙ sym (found-live (c .far .switch) (turned c) (row-turned c at));
+            found-live (c .near .switch) c (row-there c at)
+            ∙ sym (live-both (faultsOf faults) c)
+            ∙ sym (found-live (c .far .switch) (turned c) (row-turned c at));
       }
     where
       port-not-0 : (d : Dart) → Cabled (networkOf s faults) d → d .port ≡ 0 → ⊥

@@ -16,7 +16,7 @@ use Rattle.switch.proofs.Advancing.{Ends, delivers, finds-none, ends}
 use Rattle.switch.specs.declared.checks.Check.{Check}
 use Rattle.switch.specs.declared.checks.Check.the-variants.{Passed, Refused}
 use Rattle.walk.specs.Network.{Dart, Live, Counted}
-use Rattle.walk.specs.Walk.{Packet, stepOf, carried, sent, Way, paper, walkChecks, traceBytes, Result, refusedWith, endedWith, Walks, turnedAway, arrives}
+use Rattle.walk.specs.Walk.{Packet, Way, paper, traceBytes, Result, Walks, turnedAway, arrives}
 use Rattle.walk.specs.Condition3.{networkOf, Joined, Reachable, Premises, hopsIn, Condition3}
 use Rattle.sheet.proofs.Lists.{all-at, all-of}
 use Rattle.walk.proofs.Lists.{reverse-in, in-reverse, reverse-all, reverse-once}
@@ -25,7 +25,7 @@ use Rattle.walk.proofs.Darts.{Due}
 use Rattle.walk.proofs.SheetNetwork.{sheet-lawful}
 use Rattle.walk.proofs.Following.{travellerOf, Follows, chosen-at, follows}
 use Rattle.walk.proofs.Checking.{passed≢refused, premises-pass, passed-premises, lists-switches, lists-sound}
-use Rattle.walk.proofs.Traversal.{run-once, run-chain, run-live, delivered-reached, delivered-bound, home, none-home, NoneHome, rows-bound}
+use Rattle.walk.proofs.Traversal.{run-once, run-chain, run-live, delivered-reached, delivered-bound, home, none-home, NoneHome}
 use Rattle.walk.proofs.Traversal.{counted-is, counted-one}
 
 -- ---- the hops that a trace tells are the hops made
@@ -70,11 +70,11 @@ module _ (s faults : List ℕ) (source destination : ℕ) (sound : Sound (switch
           none-at = λ e. absurd (omega arith);
           home = no-hop;
           at-most = λ e apart.
-            omega (
-              arith,
-              length-reverse (k .trace),
-              delivered-bound (networkOf s faults) lawful (so .run) there (λ q. apart (sym q)) counted,
-            );
+              omega (
+                arith,
+                length-reverse (k .trace),
+                delivered-bound (networkOf s faults) lawful (so .run) there (λ q. apart (sym q)) counted,
+              );
           exactly = λ e. absurd (omega arith);
           each-way = λ e. absurd (omega arith);
           once = reverse-once (k .trace) (run-once (networkOf s faults) lawful (so .run));

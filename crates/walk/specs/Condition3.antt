@@ -22,7 +22,7 @@ networkOf s faults =
       other = λ c. socketOf (c .far);
       order = λ v. map (λ c. c .near .port) (orderAt s v);
       live = λ d. liveAt s faults (d .switch) (d .port);
-      far = λ d. farAt s (d .switch) (d .port)
+      far = λ d. farAt s (d .switch) (d .port);
     }
 
 -- a chain of live cables joins the source to a switch

@@ -7,8 +7,6 @@ use lib.Dec.{leb}
 use Rattle.sheet.specs.Cables.{switchesOf}
 use Rattle.sheet.specs.Refusals.{Answer, accepted, refused, listAnswer}
 use Rattle.sheet.specs.Cabling.{orderAt}
-use Rattle.sheet.specs.declared.check.Checked.{Checked}
-use Rattle.sheet.specs.declared.check.Checked.the-variants as Checked
 use Rattle.switch.specs.Checks.{rule, switchesRule, tagRule, firstBroken}
 use Rattle.switch.specs.Step.{Stepped, advanced}
 use Rattle.switch.specs.declared.checks.Check.{Check}
@@ -37,7 +35,7 @@ module _ (s faults : List ℕ) (destination : ℕ) where
         at = stepOf k .far .switch;
         arrival = stepOf k .far .port;
         tag = stepOf k .tag;
-        trace = k .trace ++ (record { switch = k .at; port = stepOf k .paper .port } ∷ [])
+        trace = k .trace ++ (record { switch = k .at; port = stepOf k .paper .port } ∷ []);
       }
 
   -- from the host at the source, with 2n zero bytes
@@ -71,11 +69,6 @@ paperOf w = ended (w .end) (w .switch .0) (w .hops)
 
 -- ---- the checks: refusals 1 to 5, then 6 and 7
 
--- the refusal number of sheet and fault list in the code; 0 where they are accepted
-abbrev pub listsNumber : Checked → ℕ
-listsNumber (Checked.Accepted n cables) = 0
-listsNumber (Checked.Refused number) = number
-
 -- 7: trace shorter than 4 bytes for each cable of the sheet
 abbrev pub traceRule : ℕ → List ℕ → Check
 traceRule cables trace = rule 7 (leb (4 * cables) (length trace))
@@ -99,6 +92,10 @@ pub record Result : Type 0 where
   pub tag : List ℕ
   pub trace : List ℕ
 
+-- an answer in the code, and both buffers afterwards
+abbrev pub resultOf : Walked → List ℕ → List ℕ → Result
+resultOf w tag trace = record { paper = paperOf w; tag = tag; trace = trace }
+
 -- a refusal has no hop and no end switch, and writes nothing
 abbrev pub refusedWith : List ℕ → List ℕ → ℕ → Result
 refusedWith tag trace number = record { paper = paper 3 0 0 number; tag = tag; trace = trace }
@@ -109,7 +106,7 @@ endedWith s faults tag trace destination k =
     record {
       paper = paper (stepOf s faults destination k .paper .end) (k .at) (length (k .trace)) 0;
       tag = k .tag ++ drop (2 * switchesOf s) tag;
-      trace = traceBytes (k .trace) ++ drop (2 * length (k .trace)) trace
+      trace = traceBytes (k .trace) ++ drop (2 * length (k .trace)) trace;
     }
 
 pub data Walks (s faults tag trace : List ℕ) (source destination : ℕ) : Result → Type 0 where

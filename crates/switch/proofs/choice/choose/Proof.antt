@@ -16,7 +16,7 @@ first-open-requires c κs = search needs
 returns : tie.Need-returns
 unfolding choose
 returns c =
-    let a = c .before .before .before .args in
+    let a = c .before .before .before .before .before .args in
     let walk = firstOpen (faultsOf (now (a .faults))) (a .cell .parent .0) (a .cell .current .0) in
     (c .first-open .ensures .0 ∙ ap walk (c .before .after-current .ensures), c .first-open .ensures .1)
 

@@ -2,30 +2,27 @@
 -- parent does.
 use Prim.Native.Nat.{_-_}
 use mathlib.Core.Path.{refl, sym, _∙_}
-use native.Mathlib.Omega.{arith}
+use lib.ListN.{length}
+use denote.Ref.{now}
 use borrow.Author.Needs.{needs}
 use Rattle.sheet.specs.Faults.{faultsOf}
+use Rattle.sheet.specs.Order.{cablesAt}
 use Rattle.switch.proofs.Walking.{From, open-next, open-found, open-none, by-parent-storable}
 use Rattle.switch.proofs.choice.first_open.Statement.{statement}
 use Rattle.switch.proofs.choice.first_open.Tie as tie
 
 abbrev Inv-loop : tie.InvT-loop
-Inv-loop faults cell cables parent size i₀ i = From cables size (faultsOf faults) (cell .parent .0) (cell .current .0) i₀ i
+Inv-loop sheet order faults cell parent i₀ i =
+    From (cablesAt sheet order) (faultsOf faults) (cell .parent .0) (cell .current .0) i₀ i
 
 abbrev μ-loop : tie.MeasureT-loop
-μ-loop faults cell cables parent size i₀ i = size - i
-
-size-requires : tie.Need-size-requires Inv-loop μ-loop
-size-requires c κs = search needs
+μ-loop sheet order faults cell parent i₀ i = length order - i
 
 loop-holds : tie.Need-loop-holds Inv-loop μ-loop
 loop-holds c = record { same = refl }
 
-mul-c : tie.Need-mul-c Inv-loop μ-loop
-mul-c c = search needs
-
-array-copy-out-c : tie.Need-array-copy-out-c Inv-loop μ-loop
-array-copy-out-c c = omega (arith, c .before .before .size .ensures .1)
+cable-requires : tie.Need-cable-requires Inv-loop μ-loop
+cable-requires c κs = search needs
 
 is-open-requires : tie.Need-is-open-requires Inv-loop μ-loop
 is-open-requires c κs = search needs
@@ -36,10 +33,11 @@ near-port-requires c κs = search needs
 returns : tie.Need-returns Inv-loop μ-loop
 returns c =
     let a = c .before .before .before .before .before .before .before .before .before .before .args in
-    let turn = c .before .before .before .before in
+    let read = c .before .before .before in
+    let turn = read .before in
     let port = c .near-port .ensures .0 in (
       rw port
-          (open-found (a .order) (turn .before .before .size .ensures .0) (turn .before .loop .inv) (turn .loop-test .taken)
+          (open-found (now (a .sheet)) (now (a .order)) (turn .before .loop .inv) (turn .loop-test .taken) (read .cable .ensures)
           (sym (c .before .before .is-open .ensures) ∙ c .before .if1 .taken)),
       c .near-port .ensures .1,
     )
@@ -53,8 +51,9 @@ loop-less c = search needs
 loop-again : tie.Need-loop-again Inv-loop μ-loop
 loop-again c =
     let a = c .before .before .before .before .before .before .before .before .before .args in
-    let turn = c .before .before .before in
-    open-next (a .order) (turn .before .before .size .ensures .0) (turn .before .loop .inv) (turn .loop-test .taken)
+    let read = c .before .before in
+    let turn = read .before in
+    open-next (now (a .sheet)) (now (a .order)) (turn .before .loop .inv) (turn .loop-test .taken) (read .cable .ensures)
     (sym (c .before .is-open .ensures) ∙ c .if1 .left)
 
 by-parent-requires : tie.Need-by-parent-requires Inv-loop μ-loop
@@ -62,11 +61,11 @@ by-parent-requires c κs = search needs
 
 returns-2 : tie.Need-returns-2 Inv-loop μ-loop
 returns-2 c =
-    let a = c .before .before .before .before .before .before .before .args in
-    let start = c .before .before .before in (
-      c .by-parent .ensures ∙ open-none (a .order) (start .size .ensures .0) (c .before .before .loop .inv) (c .before .loop-test .left),
-      by-parent-storable (c .by-parent .result) (a .cell .parent .0) (a .cell .current .0) (c .by-parent .ensures)
-          (c .before .before .before .before .before .before .before .pre),
+    let start = c .before .before .before .before .before .before .before in
+    let a = start .args in (
+      c .by-parent .ensures
+          ∙ open-none (now (a .sheet)) (now (a .order)) (c .before .before .loop .inv) (c .before .loop-test .left),
+      by-parent-storable (c .by-parent .result) (a .cell .parent .0) (a .cell .current .0) (c .by-parent .ensures) (start .pre),
     )
 
 pub first-open-spec : {M : Type 1} → statement M
@@ -75,10 +74,8 @@ first-open-spec =
     (tie.spec
     Inv-loop
     μ-loop
-    size-requires
     loop-holds
-    mul-c
-    array-copy-out-c
+    cable-requires
     is-open-requires
     near-port-requires
     returns

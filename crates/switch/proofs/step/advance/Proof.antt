@@ -4,7 +4,7 @@ use mathlib.Core.Path.{_≡_, refl, ap, _∙_}
 use mathlib.Core.List.{List}
 use denote.Ref.{now}
 use borrow.Author.Needs.{needs}
-use Rattle.sheet.specs.Order.{listOf}
+use Rattle.sheet.specs.Order.{cablesAt}
 use Rattle.sheet.specs.declared.cables.Cable.{Cable}
 use Rattle.switch.specs.Cell.{CellFits, cellOf, withCell, entered}
 use Rattle.switch.proofs.Moving.{entered-fits, left-fits, stored-fits, at-destination, goes-nowhere, goes-by}
@@ -15,7 +15,7 @@ use Rattle.switch.proofs.step.advance.Tie as tie
 
 module _ (c : tie.Start) where
   abbrev order : List Cable
-  order = listOf (c .args .order)
+  order = cablesAt (now (c .args .sheet)) (now (c .args .order))
 
   abbrev faults : List ℕ
   faults = now (c .args .faults)
@@ -35,7 +35,7 @@ module _ (c : tie.Start) where
 -- ---- the cell, once it is entered
 
 abbrev start : tie.After-entered → tie.Start
-start c = c .before .before .before .before .before .before .before .before
+start c = c .before .before .before .before .before .before .before .before .before .before
 
 entry : (c : tie.After-entered) → c .entered .result ≡ entered (cellOf (tag (start c)) (v (start c))) (arrival (start c))
 entry c = c .entered .ensures ∙ ap (λ old. entered old (arrival (start c))) (c .before .read .ensures .0)
@@ -50,7 +50,7 @@ stopped-requires c κs = search needs
 
 returns : tie.Need-returns
 returns c =
-    let a = c .before .before .before .before .before .before in
+    let a = c .before .before .before .before .before .before .before .before in
     let says = c .stopped .ensures in
     at-destination (order a) (faults a) (tag a) (v a) (arrival a) (d a) (c .stopped .result) (c .before .if1 .taken) (says .0) (says .1)
 

@@ -6,9 +6,9 @@ use mathlib.Core.List.{List, [], _∷_}
 use denote.Ref.{now}
 use borrow.Author.Needs.{needs}
 use Rattle.sheet.specs.Cables.{rowsOf}
-use Rattle.sheet.specs.Order.{portOrder, listOf}
+use Rattle.sheet.specs.Order.{portOrder}
 use Rattle.sheet.specs.declared.cables.Cable.{Cable}
-use Rattle.sheet.proofs.Listing.{as-listed}
+use Rattle.sheet.proofs.Taking.{placed-within, placed-count, placed-order}
 use Rattle.switch.specs.Cell.{CellInside, cellOf}
 use Rattle.switch.specs.Checks.{switchesRule, tagRule, arrivalRule, freshRule, cellRule}
 use Rattle.switch.specs.Step.{advanced}
@@ -84,7 +84,7 @@ at-7 c =
     (c .before .before .enum-told2 .given .1)
 
 abbrev back-7 : tie.After-check-arrival → tie.After-check-tag
-back-7 c = c .before .before .before .before
+back-7 c = c .before .before .before .before .before .before
 
 abbrev start-8 : tie.After-check-arrival → tie.Start
 start-8 c = start-6 (back-6 (back-7 c))
@@ -96,15 +96,15 @@ at-8 : (c : tie.After-check-arrival) → Left (start-8 c) (n-8 c) (from-8 (start
 at-8 c =
     let a = start-8 c in
     passes (sheet a) (faults a) (tag a) (v a) (arrival a) (d a) (at-7 (back-7 c)) (back-7 c .check-tag .ensures)
-    (c .before .before .enum-told4 .given .1)
+    (c .before .before .before .before .enum-told4 .given .1)
 
--- the order that the code holds is the order of the switch
-ordered : (c : tie.After-check-arrival) → listOf (c .before .port-order .result) ≡ order (start-8 c)
-ordered c = as-listed (c .before .port-order .ensures)
-
+-- what the lent places read as is the order of the switch
 arrived : (c : tie.After-check-arrival)
     → c .check-arrival .result ≡ arrivalRule (order (start-8 c)) (faults (start-8 c)) (arrival (start-8 c))
-arrived c = c .check-arrival .ensures ∙ ap (λ o. arrivalRule o (faults (start-8 c)) (arrival (start-8 c))) (ordered c)
+arrived c =
+    let a = start-8 c in
+    let ordered = placed-order (sheet a) (v a) (c .before .before .port-order .ensures) in
+    c .check-arrival .ensures ∙ ap (λ o. arrivalRule o (faults a) (arrival a)) ordered
 
 abbrev back-8 : tie.After-check-fresh → tie.After-check-arrival
 back-8 c = c .before .before .before .before
@@ -130,8 +130,9 @@ at-10 c =
 known : (c : tie.After-check-cell)
     → c .check-cell .result ≡ cellRule (order (start-10 c)) (faults (start-10 c)) (cellOf (tag (start-10 c)) (v (start-10 c)))
 known c =
-    c .check-cell .ensures
-    ∙ (λ i. cellRule (ordered (back-8 (back-9 c)) i) (faults (start-10 c)) (c .before .read .ensures .0 i))
+    let a = start-10 c in
+    let ordered = placed-order (sheet a) (v a) (back-8 (back-9 c) .before .before .port-order .ensures) in
+    c .check-cell .ensures ∙ (λ i. cellRule (ordered i) (faults a) (c .before .read .ensures .0 i))
 
 -- ---- what the checks leave for the code after them
 
@@ -216,6 +217,12 @@ returns-3 c =
 port-order-requires : tie.Need-port-order-requires
 port-order-requires c κs = search needs
 
+array-share-prefix-places : tie.Need-array-share-prefix-places
+array-share-prefix-places c = placed-within (c .port-order .ensures)
+
+slice-aggregate-order : tie.Need-slice-aggregate-order
+slice-aggregate-order c = placed-count (c .before .port-order .ensures)
+
 check-arrival-requires : tie.Need-check-arrival-requires
 check-arrival-requires c κs = search needs
 
@@ -243,7 +250,7 @@ returns-4 c =
 
 check-fresh-requires : tie.Need-check-fresh-requires
 check-fresh-requires c κs =
-    let here = c .before .before .before .before .before in
+    let here = c .before .before .before .before .before .before .before in
     tag-long (n-6 (back-6 (here .before .before))) (tag (start-6 (back-6 (here .before .before)))) (long here)
 
 enum-told-8 : tie.Need-enum-told-8
@@ -270,7 +277,7 @@ returns-5 c =
 
 read-requires : tie.Need-read-requires
 read-requires c κs =
-    inside (c .before .before .before .before .before .before .before .before .before)
+    inside (c .before .before .before .before .before .before .before .before .before .before .before)
 
 check-cell-requires : tie.Need-check-cell-requires
 check-cell-requires c κs = search needs
@@ -304,7 +311,7 @@ advance-requires c κs =
     let a = start-8 here in
     let lives = sym (arrived here) ∙ fresh .before .before .enum-told6 .given .1 in
     record {
-      cell = inside (here .before .before);
+      cell = inside (here .before .before .before .before);
       byte = arrival-byte (sheet a) (faults a) (v a) (arrival a) (at-8 here .lists) lives;
     }
 
@@ -320,7 +327,8 @@ returns-7 c =
     let a = start-10 here in
     let passed = c .before .before .before .before .before .enum-told10 .given .1 in
     let last = passes (sheet a) (faults a) (tag a) (v a) (arrival a) (d a) (at-10 here) (known here) passed in
-    let on-order = ap (λ o. advanced o (faults a) (tag a) (v a) (arrival a) (d a)) (ordered (back-8 (back-9 here))) in
+    let ordered = placed-order (sheet a) (v a) (back-8 (back-9 here) .before .before .port-order .ensures) in
+    let on-order = ap (λ o. advanced o (faults a) (tag a) (v a) (arrival a) (d a)) ordered in
     advances-then (sheet a) (faults a) (tag a) (v a) (arrival a) (d a) last (c .answer .result)
     (c .before .before .before .advance .result) (c .answer .ensures) (c .before .before .before .advance .ensures ∙ on-order)
 
@@ -348,6 +356,8 @@ step-spec =
     same-length
     returns-3
     port-order-requires
+    array-share-prefix-places
+    slice-aggregate-order
     check-arrival-requires
     enum-told-6
     enum-told-7

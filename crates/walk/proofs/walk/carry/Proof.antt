@@ -1,4 +1,4 @@
--- The loop keeps the packet of the definition (Carrying.antt). A hop leaves fewer hops until twice the sheet's cables, which no walk passes.
+-- The loop keeps the packet of the definition (Carrying.antt). Each hop comes nearer to twice the sheet's cables, which no walk passes.
 use Prim.Native.Nat.{_-_, _*_}
 use mathlib.Core.Path.{_∙_}
 use native.Mathlib.Omega.{arith}
@@ -6,14 +6,13 @@ use lib.ListN.{length, length-set}
 use denote.Ref.{now}
 use borrow.Author.Needs.{needs}
 use Rattle.sheet.specs.Cables.{rowsOf}
-use Rattle.walk.proofs.Carrying.{Carrying, carrying-starts, switch-small, ready, tag-size, trace-size}
-use Rattle.walk.proofs.Carrying.{walk-ends, HopRoom, hop-room, carrying-on}
+use Rattle.walk.proofs.Carrying.{Carrying, carrying-starts, switch-small, ready, tag-size, trace-size, walk-ends, HopRoom, hop-room, carrying-on}
 use Rattle.walk.proofs.walk.carry.Statement.{statement}
 use Rattle.walk.proofs.walk.carry.Tie as tie
 use Rattle.walk.proofs.walk.carry.Reads as reads
 use Rattle.walk.proofs.walk.carry.Lts as lts
-use Rattle.sheet.proofs.order.port_order.Reads as port-order-reads
-use Rattle.switch.proofs.step.advance.Reads as advance-reads
+use Rattle.walk.proofs.walk.move_on.Reads as move-on-reads
+use Rattle.walk.proofs.walk.ended.Reads as ended-reads
 
 abbrev Inv-loop : tie.InvT-loop
 Inv-loop sheet faults tag₀ trace₀ destination at₀ arrival₀ hops₀ tag trace at arrival hops =
@@ -24,23 +23,20 @@ abbrev μ-loop : tie.MeasureT-loop
 
 -- after the step's port is known, the hop has room
 room : (c : lts.After-go
-      (port-order-reads.Asked, port-order-reads.Learnt, advance-reads.Asked, advance-reads.Learnt) reads.Pre reads.Post Inv-loop μ-loop)
+    (move-on-reads.Asked, move-on-reads.Learnt, ended-reads.Asked, ended-reads.Learnt) reads.Pre reads.Post Inv-loop μ-loop)
     → let p = c .before .before .before .before in
-    HopRoom (now (p .before .before .before .before .before .before .before .before .args .sheet)) (p .before .before .before .loop .trace)
-    (c .go .given .0 .0 .0) (p .before .before .before .loop .hops)
+    HopRoom (now (p .before .before .before .before .before .before .before .args .sheet))
+    (p .before .before .loop .trace) (c .go .given .0 .0 .0) (p .before .before .loop .hops)
 room c =
     let p = c .before .before .before .before in
-    hop-room (p .before .before .before .loop .inv) (p .before .before .port-order .ensures) (p .advance .result) (p .advance .ensures)
+    hop-room (p .before .before .loop .inv) (p .move-on .result) (p .move-on .ensures)
     (c .go .given .1)
 
 loop-holds : tie.Need-loop-holds Inv-loop μ-loop
 loop-holds c = let (premises, zeros) = c .before .before .before .before .pre in carrying-starts premises zeros
 
-port-order-requires : tie.Need-port-order-requires Inv-loop μ-loop
-port-order-requires c κs = tt
-
-advance-requires : tie.Need-advance-requires Inv-loop μ-loop
-advance-requires c κs = ready (c .before .before .loop .inv)
+move-on-requires : tie.Need-move-on-requires Inv-loop μ-loop
+move-on-requires c κs = ready (c .before .loop .inv)
 
 enum-known-go : tie.Need-enum-known-go Inv-loop μ-loop
 enum-known-go c = search needs
@@ -48,36 +44,46 @@ enum-known-go c = search needs
 enum-told : tie.Need-enum-told Inv-loop μ-loop
 enum-told c = search needs
 
+ended-requires : tie.Need-ended-requires Inv-loop μ-loop
+ended-requires c κs = tt
+
 same-length : tie.Need-same-length Inv-loop μ-loop
-same-length c = let p = c .before .before .before .before in p .advance .kept .1 .1 .0 ∙ tag-size (p .before .before .before .loop .inv)
+same-length c =
+    let p = c .before .before .before .before .before in
+    p .move-on .kept .1 .1 .0 ∙ tag-size (p .before .before .loop .inv)
 
 same-length-2 : tie.Need-same-length-2 Inv-loop μ-loop
 same-length-2 c = trace-size (c .before .before .before .before .before .before .before .loop .inv)
 
 returns : tie.Need-returns Inv-loop μ-loop
 returns c =
-    let p = c .before .before .before .before in
-    walk-ends (p .before .before .before .loop .inv) (p .before .before .port-order .ensures) (p .advance .result) (p .advance .ensures)
-    (c .enum-told .given .1) (λ z. omega arith)
+    let p = c .before .before .before .before .before in
+    walk-ends (p .before .before .loop .inv) (p .move-on .result) (p .move-on .ensures)
+    (c .before .enum-told .given .1) (λ z. omega arith) (c .ended .result) (c .ended .ensures)
 
 enum-told-2 : tie.Need-enum-told-2 Inv-loop μ-loop
 enum-told-2 c = search needs
 
+ended-requires-2 : tie.Need-ended-requires-2 Inv-loop μ-loop
+ended-requires-2 c κs = tt
+
 same-length-3 : tie.Need-same-length-3 Inv-loop μ-loop
-same-length-3 c = let p = c .before .before .before .before in p .advance .kept .1 .1 .0 ∙ tag-size (p .before .before .before .loop .inv)
+same-length-3 c =
+    let p = c .before .before .before .before .before in
+    p .move-on .kept .1 .1 .0 ∙ tag-size (p .before .before .loop .inv)
 
 same-length-4 : tie.Need-same-length-4 Inv-loop μ-loop
 same-length-4 c = trace-size (c .before .before .before .before .before .before .before .loop .inv)
 
 returns-2 : tie.Need-returns-2 Inv-loop μ-loop
 returns-2 c =
-    let p = c .before .before .before .before in
-    walk-ends (p .before .before .before .loop .inv) (p .before .before .port-order .ensures) (p .advance .result) (p .advance .ensures)
-    (c .enum-told2 .given .1) (λ z. omega arith)
+    let p = c .before .before .before .before .before in
+    walk-ends (p .before .before .loop .inv) (p .move-on .result) (p .move-on .ensures)
+    (c .before .enum-told2 .given .1) (λ z. omega arith) (c .ended2 .result) (c .ended2 .ensures)
 
 cast-trace : tie.Need-cast-trace Inv-loop μ-loop
 cast-trace c =
-    record { fits = switch-small (c .before .before .before .before .before .before .before .before .before .loop .inv) }
+    record { fits = switch-small (c .before .before .before .before .before .before .before .before .loop .inv) }
 
 mul-trace : tie.Need-mul-trace Inv-loop μ-loop
 mul-trace c = let h = room (c .before .before) in record { fits = omega arith }
@@ -107,7 +113,7 @@ loop-again : tie.Need-loop-again Inv-loop μ-loop
 loop-again c =
     let go = c .before .before .before .before .before .before in
     let p = go .before .before .before .before in
-    carrying-on (p .before .before .before .loop .inv) (p .before .before .port-order .ensures) (p .advance .result) (p .advance .ensures)
+    carrying-on (p .before .before .loop .inv) (p .move-on .result) (p .move-on .ensures)
     (go .go .given .1)
 
 pub carry-spec : {M : Type 1} → statement M
@@ -117,14 +123,15 @@ carry-spec =
     Inv-loop
     μ-loop
     loop-holds
-    port-order-requires
-    advance-requires
+    move-on-requires
     enum-known-go
     enum-told
+    ended-requires
     same-length
     same-length-2
     returns
     enum-told-2
+    ended-requires-2
     same-length-3
     same-length-4
     returns-2

@@ -1,5 +1,4 @@
 -- Rule 7 of the trace, by quarters of its length.
-use mathlib.Core.Path.{refl}
 use Prim.Native.Nat.{_*_}
 use native.Mathlib.Omega.{arith}
 use lib.ListN.{length}

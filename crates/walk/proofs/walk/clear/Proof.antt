@@ -31,8 +31,7 @@ loop-less c = omega arith
 loop-again : tie.Need-loop-again Inv-loop μ-loop
 loop-again c =
     let (low, fits, long, filled) = c .before .loop .inv in
-    let i = c .before .loop .i in
-    (
+    let i = c .before .loop .i in (
       omega arith,
       fits,
       simp length-set long,

@@ -2,8 +2,7 @@
 use native.Mathlib.Omega.{arith}
 use denote.Ref.{now}
 use borrow.Author.Needs.{needs}
-use Rattle.walk.proofs.Answering.{lists-turn-away, switches-turn-away, tag-turn-away, trace-turn-away}
-use Rattle.walk.proofs.Answering.{few, tag-fits, ready-to-carry, carried-through}
+use Rattle.walk.proofs.Answering.{lists-turn-away, switches-turn-away, tag-turn-away, trace-turn-away, few, tag-fits, ready-to-carry, carried-through}
 use Rattle.walk.proofs.walk.walk.Statement.{statement}
 use Rattle.walk.proofs.walk.walk.Tie as tie
 
@@ -24,9 +23,11 @@ refused-requires c κs = search needs
 
 returns : tie.Need-returns
 returns c =
-    let a = c .before .before .before .before .before .before .before .before .before .args in
+    let lists = c .before .before .before .before in
+    let a = lists .before .before .before .before .before .args in
     lists-turn-away (now (a .sheet)) (now (a .faults)) (now (a .tag)) (now (a .trace)) (a .source .0) (a .destination .0)
-    (c .refused .result) (c .before .before .before .before .check-faults .ensures) (c .before .before .enum-told .given .1) (c .before .lists-number .ensures) (c .refused .ensures)
+    (c .refused .result) (lists .check-faults .ensures) (c .before .before .enum-told .given .1) (c .before .lists-number .ensures)
+    (c .refused .ensures)
 
 check-switches-requires : tie.Need-check-switches-requires
 check-switches-requires c κs = search needs
@@ -45,9 +46,11 @@ refused-requires-2 c κs = search needs
 
 returns-2 : tie.Need-returns-2
 returns-2 c =
-    let a = c .before .before .before .before .before .before .before .before .before .before .before .before .before .args in
+    let switches = c .before .before .before .before in
+    let lists = switches .before .before .before .before in
+    let a = lists .before .before .before .before .before .args in
     switches-turn-away (now (a .sheet)) (now (a .faults)) (now (a .tag)) (now (a .trace)) (a .source .0) (a .destination .0)
-    (c .before .before .before .before .before .before .before .before .check-faults .ensures) (c .before .before .before .before .before .before .lists .given .1) (c .before .before .before .before .check-switches .ensures)
+    (lists .check-faults .ensures) (switches .before .before .lists .given .1) (switches .check-switches .ensures)
     (c .refused2 .result) (c .before .before .enum-told3 .given .1) (c .before .number .ensures) (c .refused2 .ensures)
 
 check-tag-requires : tie.Need-check-tag-requires
@@ -70,10 +73,13 @@ same-length c = search needs
 
 returns-3 : tie.Need-returns-3
 returns-3 c =
-    let a = c .before .before .before .before .before .before .before .before .before .before .before .before .before .before .before .before .before .args in
+    let tag = c .before .before .before .before in
+    let switches = tag .before .before .before .before in
+    let lists = switches .before .before .before .before in
+    let a = lists .before .before .before .before .before .args in
     tag-turn-away (now (a .sheet)) (now (a .faults)) (now (a .tag)) (now (a .trace)) (a .source .0) (a .destination .0)
-    (c .before .before .before .before .before .before .before .before .before .before .before .before .check-faults .ensures) (c .before .before .before .before .before .before .before .before .before .before .lists .given .1) (c .before .before .before .before .before .before .before .before .check-switches .ensures) (c .before .before .before .before .before .before .enum-told2 .given .1)
-    (c .before .before .before .before .check-tag .ensures)
+    (lists .check-faults .ensures) (switches .before .before .lists .given .1) (switches .check-switches .ensures)
+    (tag .before .before .enum-told2 .given .1) (tag .check-tag .ensures)
     (c .refused3 .result) (c .before .before .enum-told5 .given .1) (c .before .number2 .ensures) (c .refused3 .ensures)
 
 check-trace-requires : tie.Need-check-trace-requires
@@ -99,32 +105,51 @@ same-length-3 c = search needs
 
 returns-4 : tie.Need-returns-4
 returns-4 c =
-    let a = c .before .before .before .before .before .before .before .before .before .before .before .before .before .before .before .before .before .before .before .before .before .args in
+    let trace = c .before .before .before .before in
+    let tag = trace .before .before .before .before in
+    let switches = tag .before .before .before .before in
+    let lists = switches .before .before .before .before in
+    let a = lists .before .before .before .before .before .args in
     trace-turn-away (now (a .sheet)) (now (a .faults)) (now (a .tag)) (now (a .trace)) (a .source .0) (a .destination .0)
-    (c .before .before .before .before .before .before .before .before .before .before .before .before .before .before .before .before .check-faults .ensures) (c .before .before .before .before .before .before .before .before .before .before .before .before .before .before .lists .given .1) (c .before .before .before .before .before .before .before .before .before .before .before .before .check-switches .ensures) (c .before .before .before .before .before .before .before .before .before .before .enum-told2 .given .1)
-    (c .before .before .before .before .before .before .before .before .check-tag .ensures) (c .before .before .before .before .before .before .enum-told4 .given .1) (c .before .before .before .before .check-trace .ensures)
+    (lists .check-faults .ensures) (switches .before .before .lists .given .1) (switches .check-switches .ensures)
+    (tag .before .before .enum-told2 .given .1) (tag .check-tag .ensures) (trace .before .before .enum-told4 .given .1) (trace .check-trace .ensures)
     (c .refused4 .result) (c .before .before .enum-told7 .given .1) (c .before .number3 .ensures) (c .refused4 .ensures)
 
 mul-clear : tie.Need-mul-clear
 mul-clear c =
-    let a = c .before .before .before .before .before .before .before .before .before .before .before .before .before .before .before .before .before .before .before .before .args in
-    let small = few (now (a .sheet)) (now (a .faults)) (now (a .tag)) (now (a .trace)) (a .source .0) (a .destination .0) (c .before .before .before .before .before .before .before .before .before .before .before .before .before .before .before .check-faults .ensures) (c .before .before .before .before .before .before .before .before .before .before .before .before .before .lists .given .1) in
+    let trace = c .before .before .before in
+    let tag = trace .before .before .before .before in
+    let switches = tag .before .before .before .before in
+    let lists = switches .before .before .before .before in
+    let a = lists .before .before .before .before .before .args in
+    let small = few (now (a .sheet)) (now (a .faults)) (now (a .tag)) (now (a .trace)) (a .source .0) (a .destination .0)
+    (lists .check-faults .ensures)
+    (switches .before .before .lists .given .1) in
     record { fits = omega arith }
 
 clear-requires : tie.Need-clear-requires
 clear-requires c κs =
-    let a = c .before .before .before .before .before .before .before .before .before .before .before .before .before .before .before .before .before .before .before .before .args in
+    let trace = c .before .before .before in
+    let tag = trace .before .before .before .before in
+    let switches = tag .before .before .before .before in
+    let lists = switches .before .before .before .before in
+    let a = lists .before .before .before .before .before .args in
     tag-fits (now (a .sheet)) (now (a .faults)) (now (a .tag)) (now (a .trace)) (a .source .0) (a .destination .0)
-    (c .before .before .before .before .before .before .before .before .before .before .before .before .before .before .before .check-faults .ensures) (c .before .before .before .before .before .before .before .before .before .before .before .before .before .lists .given .1) (c .before .before .before .before .before .before .before .before .before .before .before .check-switches .ensures) (c .before .before .before .before .before .before .before .before .before .enum-told2 .given .1)
-    (c .before .before .before .before .before .before .before .check-tag .ensures) (c .before .before .before .before .before .enum-told4 .given .1)
+    (lists .check-faults .ensures) (switches .before .before .lists .given .1) (switches .check-switches .ensures)
+    (tag .before .before .enum-told2 .given .1) (tag .check-tag .ensures) (trace .before .before .enum-told4 .given .1)
 
 carry-requires : tie.Need-carry-requires
 carry-requires c κs =
-    let a = c .before .before .before .before .before .before .before .before .before .before .before .before .before .before .before .before .before .before .before .before .before .before .before .before .before .args in
+    let clear = c .before .before .before .before in
+    let trace = clear .before .before .before .before in
+    let tag = trace .before .before .before .before in
+    let switches = tag .before .before .before .before in
+    let lists = switches .before .before .before .before in
+    let a = lists .before .before .before .before .before .args in
     ready-to-carry (now (a .sheet)) (now (a .faults)) (now (a .tag)) (now (a .trace)) (a .source .0) (a .destination .0)
-    (c .before .before .before .before .before .before .before .before .before .before .before .before .before .before .before .before .before .before .before .before .check-faults .ensures) (c .before .before .before .before .before .before .before .before .before .before .before .before .before .before .before .before .before .before .lists .given .1) (c .before .before .before .before .before .before .before .before .before .before .before .before .before .before .before .before .check-switches .ensures) (c .before .before .before .before .before .before .before .before .before .before .before .before .before .before .enum-told2 .given .1)
-    (c .before .before .before .before .before .before .before .before .before .before .before .before .check-tag .ensures) (c .before .before .before .before .before .before .before .before .before .before .enum-told4 .given .1) (c .before .before .before .before .before .before .before .before .check-trace .ensures) (c .before .before .before .before .before .before .enum-told6 .given .1)
-    (c .before .before .before .before .clear .ensures)
+    (lists .check-faults .ensures) (switches .before .before .lists .given .1) (switches .check-switches .ensures)
+    (tag .before .before .enum-told2 .given .1) (tag .check-tag .ensures) (trace .before .before .enum-told4 .given .1) (trace .check-trace .ensures)
+    (clear .before .before .enum-told6 .given .1) (clear .clear .ensures)
 
 same-length-4 : tie.Need-same-length-4
 same-length-4 c = search needs
@@ -134,11 +159,17 @@ same-length-5 c = search needs
 
 returns-5 : tie.Need-returns-5
 returns-5 c =
-    let a = c .before .before .before .before .before .before .before .before .before .before .before .before .before .before .before .before .before .before .before .before .before .before .before .before .before .before .before .before .before .before .args in
+    let carry = c .before .before .before .before in
+    let clear = carry .before .before .before .before .before in
+    let trace = clear .before .before .before .before in
+    let tag = trace .before .before .before .before in
+    let switches = tag .before .before .before .before in
+    let lists = switches .before .before .before .before in
+    let a = lists .before .before .before .before .before .args in
     carried-through (now (a .sheet)) (now (a .faults)) (now (a .tag)) (now (a .trace)) (a .source .0) (a .destination .0)
-    (c .before .before .before .before .before .before .before .before .before .before .before .before .before .before .before .before .before .before .before .before .before .before .before .before .before .check-faults .ensures) (c .before .before .before .before .before .before .before .before .before .before .before .before .before .before .before .before .before .before .before .before .before .before .before .lists .given .1) (c .before .before .before .before .before .before .before .before .before .before .before .before .before .before .before .before .before .before .before .before .before .check-switches .ensures) (c .before .before .before .before .before .before .before .before .before .before .before .before .before .before .before .before .before .before .before .enum-told2 .given .1)
-    (c .before .before .before .before .before .before .before .before .before .before .before .before .before .before .before .before .before .check-tag .ensures) (c .before .before .before .before .before .before .before .before .before .before .before .before .before .before .before .enum-told4 .given .1) (c .before .before .before .before .before .before .before .before .before .before .before .before .before .check-trace .ensures) (c .before .before .before .before .before .before .before .before .before .before .before .enum-told6 .given .1)
-    (c .before .before .before .before .before .before .before .before .before .clear .ensures) (c .before .before .before .before .carry .result) (c .before .before .before .before .carry .ensures)
+    (lists .check-faults .ensures) (switches .before .before .lists .given .1) (switches .check-switches .ensures)
+    (tag .before .before .enum-told2 .given .1) (tag .check-tag .ensures) (trace .before .before .enum-told4 .given .1) (trace .check-trace .ensures)
+    (clear .before .before .enum-told6 .given .1) (clear .clear .ensures) (carry .carry .result) (carry .carry .ensures)
 
 pub walk-spec : {M : Type 1} → statement M
 walk-spec =
