@@ -1,19 +1,21 @@
-//! Links libswitch.a into the two binaries.
+//! Links libswitch.a and libsheet.a into the two binaries.
 
 use std::env;
 use std::path::PathBuf;
 
 fn main() {
-    let library = folder().join("libswitch.a");
     println!("cargo:rerun-if-env-changed=SWITCH_LIB");
     println!("cargo:rerun-if-changed=build.rs");
-    println!("cargo:rerun-if-changed={}", library.display());
-    if !library.exists() {
-        println!("cargo:warning=no {} (set SWITCH_LIB)", library.display());
+    for name in ["libswitch.a", "libsheet.a"] {
+        let library = folder().join(name);
+        println!("cargo:rerun-if-changed={}", library.display());
+        if !library.exists() {
+            println!("cargo:warning=no {} (set SWITCH_LIB)", library.display());
+        }
+        // The archive is named in full: no other of its name can be found in
+        // its place, and the unit tests, which need none, are not given it.
+        println!("cargo:rustc-link-arg-bins={}", library.display());
     }
-    // The archive is named in full: no other libswitch can be found in its
-    // place, and the unit tests, which need no library, are not given it.
-    println!("cargo:rustc-link-arg-bins={}", library.display());
 }
 
 fn folder() -> PathBuf {

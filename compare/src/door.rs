@@ -146,12 +146,11 @@ pub fn step_unfenced(numbers: [u64; 3], sheet: &[u8], faults: &[u8], tag: &mut [
     }
 }
 
-/// The test door for the faulty row. It answers 2^63 times the part (0 sheet,
-/// 1 fault list), plus 2^32 times the start, plus the length.
-#[cfg(feature = "faulty_row")]
+/// The faulty row: 4294967296 where it is of the fault list, plus 65536 times
+/// the start, plus the length.
 pub fn faulty_row(sheet: &[u8], faults: &[u8]) -> Result<u64, String> {
     extern "C" {
-        fn faulty_row_at(
+        fn sheet_faulty_row(
             sheet: *const u8,
             sheet_len: usize,
             faults: *const u8,
@@ -162,7 +161,7 @@ pub fn faulty_row(sheet: &[u8], faults: &[u8]) -> Result<u64, String> {
     let mut faults = Fenced::new(faults, &FAULT_FENCE, Empty::Fenced);
     // SAFETY: as for a step; nothing is written.
     let answer = unsafe {
-        faulty_row_at(
+        sheet_faulty_row(
             sheet.pointer(),
             sheet.length,
             faults.pointer(),

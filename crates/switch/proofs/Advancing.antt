@@ -1,12 +1,12 @@
 -- What callers of the step rely on: where it forwards a packet, the published choice says by which port, and only the cell of the present
 -- switch changes; where it does not, the tag is as it came. And the bytes of a tag past that cell are neither read nor written.
-use Prim.Native.Nat.{ℕ, _+_, _-_, _*_, _≤_, _<_}
-use mathlib.Core.Path.{_≡_, refl, ap, sym, subst, _∙_}
-use mathlib.Core.List.{List, [], _∷_, _++_, map}
+use Prim.Native.Nat.{ℕ, _+_, _-_, _*_, _≤_}
+use mathlib.Core.Path.{_≡_, refl, ap, subst, _∙_}
+use mathlib.Core.List.{List, _++_, map}
 use mathlib.Core.Logic.{_⊎_, inl, inr}
 use mathlib.Core.Bool.{Bool, true, false, not}
 use native.Mathlib.Omega.{arith}
-use lib.ListN.{length, getD, take, set, length-set, List·getD-append}
+use lib.ListN.{length, take, set, length-set, List·getD-append}
 use lib.Seq.{set-append-left}
 use lib.Dec.{eqb}
 use borrow.Author.Tests.{eqb-true, eqb-false, eq-eqb, le-leb, not-true}
@@ -28,18 +28,21 @@ use Rattle.switch.specs.Step.{Stepped, stopped, farOf, moved, advanced, 
 use Rattle.switch.specs.declared.cell.Cell.{Cell}
 use Rattle.switch.specs.declared.checks.Check.the-variants.{Passed}
 use Rattle.switch.proofs.Choosing.{chosen}
-use Rattle.switch.proofs.Tag.{length-with, with-other, cell-with}
+use Rattle.switch.proofs.Tag.{with-other, cell-with, writes-kept, writes-length, advance-writes}
 use Rattle.switch.proofs.Stepping.{Advances, delivered, undelivered, forwarded, advances, stepped-accepted}
 
 -- ---- one cell of a tag
 
-cell-kept : (tag : List ℕ) (v : ℕ) (cell : Cell) → 1 ≤ v → (w : ℕ) → 1 ≤ w → (w ≡ v → ⊥)
-    → cellOf (withCell tag v cell) w ≡ cellOf tag w
-cell-kept tag v cell low w above other =
-    (λ i. record {
-      parent = record { 0 = with-other tag v cell (2 * (w - 1)) (λ e. omega arith) (λ e. omega arith) i };
-      current = record { 0 = with-other tag v cell (2 * (w - 1) + 1) (λ e. omega arith) (λ e. omega arith) i };
-    })
+module _ (tag : List ℕ) (v : ℕ) (cell : Cell) (low : 1 ≤ v) where
+  cell-kept : (w : ℕ) → 1 ≤ w → (w ≡ v → ⊥) → cellOf (withCell tag v cell) w ≡ cellOf tag w
+  cell-kept w above other =
+      (λ i. record {
+        parent = record { 0 = with-other tag v cell (2 * (w - 1)) (λ e. omega arith) (λ e. omega arith) i };
+        current = record { 0 = with-other tag v cell (2 * (w - 1) + 1) (λ e. omega arith) (λ e. omega arith) i };
+      })
+
+  cell-written : 2 * v ≤ length tag → cellOf (withCell tag v cell) v ≡ cell
+  cell-written inside = cell-with tag v cell (omega arith)
 
 -- ---- how an advance comes out
 
@@ -85,12 +88,11 @@ module _ (rows : List Cable) (f tag : List ℕ) (v arrival d : ℕ) where
           current = current;
           choice = choice-there e;
           far = refl;
-          there = λ low inside. cell-with tag v (leftBy cell current) (omega arith);
+          there = λ low inside. cell-written tag v (leftBy cell current) low inside;
           others = λ low. cell-kept tag v (leftBy cell current) low;
         }
 
-    pub forwards : advanced (portOrder rows v) f tag v arrival d .paper .end ≡ 0
-        → Forwards (advanced (portOrder rows v) f tag v arrival d)
+    pub forwards : advanced (portOrder rows v) f tag v arrival d .paper .end ≡ 0 → Forwards (advanced (portOrder rows v) f tag v arrival d)
     forwards = forwards-so (advances (portOrder rows v) f tag v arrival d)
 
     ends-so : {step : Stepped} → Advances (portOrder rows v) f tag v arrival d step → (step .paper .end ≡ 0 → ⊥) → Ends step
@@ -109,21 +111,11 @@ followedBy rest step = record { paper = step .paper; far = step .far; tag = step
 
 module _ (order : List Cable) (f tag : List ℕ) (v arrival d : ℕ) where
   pub advanced-length : length (advanced order f tag v arrival d .tag) ≡ length tag
-  advanced-length = so (advances order f tag v arrival d)
-    where
-      so : {step : Stepped} → Advances order f tag v arrival d step → length (step .tag) ≡ length tag
-      so (delivered e) = refl
-      so (undelivered away e) = refl
-      so (forwarded away {port} {current} e) = length-with tag v (leftBy (cellThen tag v arrival) current)
+  advanced-length = writes-length (advance-writes (advances order f tag v arrival d))
 
   -- a step that does not forward leaves the tag as it came
   pub advanced-keeps : (advanced order f tag v arrival d .paper .end ≡ 0 → ⊥) → advanced order f tag v arrival d .tag ≡ tag
-  advanced-keeps = so (advances order f tag v arrival d)
-    where
-      so : {step : Stepped} → Advances order f tag v arrival d step → (step .paper .end ≡ 0 → ⊥) → step .tag ≡ tag
-      so (delivered e) z = refl
-      so (undelivered away e) z = refl
-      so (forwarded away e) z = absurd (z refl)
+  advanced-keeps = writes-kept (advance-writes (advances order f tag v arrival d))
 
   -- bytes behind the tag are neither read nor written
   pub longer-tag : (rest : List ℕ) → 1 ≤ v → 2 * v ≤ length tag
@@ -159,6 +151,35 @@ module _ (order : List Cable) (f tag : List ℕ) (v arrival d : ℕ) where
       by true o = refl
       by false stays = refl
       by false (leaves p c) = (λ i. record { paper = paper 0 p 0; far = farOf order p; tag = written (leftBy cell c) i })
+
+-- ---- the cell of a switch that has no current port
+
+module _ (order : List Cable) (f tag : List ℕ) (v arrival d : ℕ) (fresh : cellOf tag v .current .0 ≡ 0) where
+  -- the parent becomes the arrival port
+  pub first-parent : cellThen tag v arrival .parent .0 ≡ arrival
+  first-parent = rw (eq-eqb (cellOf tag v .current .0) 0 fresh)
+
+  -- also when the packet goes straight back, and the current port then stays 0
+  pub straight-back : (v ≡ d → ⊥) → 1 ≤ v → 2 * v ≤ length tag → choose (faultsOf f) arrival 0 order ≡ leaves arrival 0
+      → (advanced order f tag v arrival d .paper ≡ paper 0 arrival 0)
+      × (cellOf (advanced order f tag v arrival d .tag) v ≡ record { parent = record { 0 = arrival }; current = record { 0 = 0 } })
+  straight-back away low inside back = so (advances order f tag v arrival d)
+    where
+      then : choose (faultsOf f) (cellThen tag v arrival .parent .0) (cellOf tag v .current .0) order ≡ leaves arrival 0
+      then = rw (first-parent, fresh) back
+
+      so : {step : Stepped} → Advances order f tag v arrival d step
+          → (step .paper ≡ paper 0 arrival 0)
+          × (cellOf (step .tag) v ≡ record { parent = record { 0 = arrival }; current = record { 0 = 0 } })
+      so (delivered e) = absurd (away e)
+      so (undelivered e e′) = let z : _≡_ {A = ℕ} 0 1 = cc in absurd (omega arith)
+      so (forwarded e {port} {current} e′) =
+          let leaves-by : port ≡ arrival = cc in
+          let stays-0 : current ≡ 0 = cc in (
+            ap (λ p. paper 0 p 0) leaves-by,
+            cell-written tag v (leftBy (cellThen tag v arrival) current) low inside
+                ∙ (λ i. record { parent = record { 0 = first-parent i }; current = record { 0 = stays-0 i } }),
+          )
 
 -- ---- the checks
 

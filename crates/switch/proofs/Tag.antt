@@ -78,10 +78,25 @@ advance-writes (undelivered e e′) = keeps refl (λ z. omega arith)
 advance-writes {tag = tag} {v} {arrival} (forwarded e {port} {current} e′) =
     writes (leftBy (entered (cellOf tag v) arrival) current) refl refl
 
-module _ (s f tag : List ℕ) (v arrival d : ℕ) where
-  abbrev step : Stepped
-  step = stepped s f tag v arrival d
+module _ {tag : List ℕ} {v : ℕ} {step : Stepped} where
+  pub writes-kept : Writes tag v step → (step .paper .end ≡ 0 → ⊥) → step .tag ≡ tag
+  writes-kept (keeps e e′) away = e
+  writes-kept (writes cell e e′) away = absurd (away e′)
 
+  pub writes-length : Writes tag v step → length (step .tag) ≡ length tag
+  writes-length (keeps e e′) = ap length e
+  writes-length (writes cell e e′) = ap length e ∙ length-with tag v cell
+
+  pub writes-other : Writes tag v step → (i : ℕ) → (i ≡ 2 * (v - 1) → ⊥) → (i ≡ 2 * (v - 1) + 1 → ⊥)
+      → getD (step .tag) i 0 ≡ getD tag i 0
+  writes-other (keeps e e′) i not-first not-second = ap (λ t. getD t i 0) e
+  writes-other (writes cell e e′) i not-first not-second = ap (λ t. getD t i 0) e ∙ with-other tag v cell i not-first not-second
+
+  pub writes-beyond : Writes tag v step → (k : ℕ) → 2 * (v - 1) + 1 < k → drop k (step .tag) ≡ drop k tag
+  writes-beyond (keeps e e′) k inside = ap (drop k) e
+  writes-beyond (writes cell e e′) k inside = ap (drop k) e ∙ with-beyond tag v cell k inside
+
+module _ (s f tag : List ℕ) (v arrival d : ℕ) where
   pub step-writes : Writes tag v (stepped s f tag v arrival d)
   step-writes = by-step (steps s f tag v arrival d)
     where
@@ -92,37 +107,21 @@ module _ (s f tag : List ℕ) (v arrival d : ℕ) where
 
   -- refused, delivered or none: the tag is as it came, to the last byte
   pub tag-kept : (stepped s f tag v arrival d .paper .end ≡ 0 → ⊥) → stepped s f tag v arrival d .tag ≡ tag
-  tag-kept away = by-writes step-writes
-    where
-      by-writes : Writes tag v step → step .tag ≡ tag
-      by-writes (keeps e e′) = e
-      by-writes (writes cell e e′) = absurd (away e′)
+  tag-kept = writes-kept step-writes
 
   pub tag-length : length (stepped s f tag v arrival d .tag) ≡ length tag
-  tag-length = by-writes step-writes
-    where
-      by-writes : Writes tag v step → length (step .tag) ≡ length tag
-      by-writes (keeps e e′) = ap length e
-      by-writes (writes cell e e′) = ap length e ∙ length-with tag v cell
+  tag-length = writes-length step-writes
 
   -- forwarded or not: only the two bytes of this switch may differ
   pub tag-other : (i : ℕ) → (i ≡ 2 * (v - 1) → ⊥) → (i ≡ 2 * (v - 1) + 1 → ⊥)
       → getD (stepped s f tag v arrival d .tag) i 0 ≡ getD tag i 0
-  tag-other i not-first not-second = by-writes step-writes
-    where
-      by-writes : Writes tag v step → getD (step .tag) i 0 ≡ getD tag i 0
-      by-writes (keeps e e′) = ap (λ t. getD t i 0) e
-      by-writes (writes cell e e′) = ap (λ t. getD t i 0) e ∙ with-other tag v cell i not-first not-second
+  tag-other = writes-other step-writes
 
   -- no byte from 2n on is ever touched
   pub tag-beyond : (n cables : ℕ) → listAnswer s f ≡ accepted n cables
       → drop (2 * n) (stepped s f tag v arrival d .tag) ≡ drop (2 * n) tag
   tag-beyond n cables accepts = by-step (steps s f tag v arrival d)
     where
-      by-writes : {r : Stepped} → 2 * (v - 1) + 1 < 2 * n → Writes tag v r → drop (2 * n) (r .tag) ≡ drop (2 * n) tag
-      by-writes inside (keeps e e′) = ap (drop (2 * n)) e
-      by-writes inside (writes cell e e′) = ap (drop (2 * n)) e ∙ with-beyond tag v cell (2 * n) inside
-
       by-step : {r : Stepped} → Steps s f tag v arrival d r → drop (2 * n) (r .tag) ≡ drop (2 * n) tag
       by-step (lists-refuse e) = refl
       by-step (check-refuses e e′) = refl
@@ -130,7 +129,7 @@ module _ (s f tag : List ℕ) (v arrival d : ℕ) where
           let same : m ≡ n = cc in
           let lists = both-accepted s f m k .0 e in
           let inside = passed-inside (lists-sound lists) f tag v arrival d (rw (lists-rows lists) at e′) in
-          by-writes (omega arith) (advance-writes (advances (portOrder (rowsOf s) v) f tag v arrival d))
+          writes-beyond (advance-writes (advances (portOrder (rowsOf s) v) f tag v arrival d)) (2 * n) (omega arith)
 
 -- ---- what a step reads
 

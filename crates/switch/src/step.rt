@@ -136,18 +136,18 @@ pub fn step(
     sheet: &[u8],
     faults: &[u8],
     tag: &mut [u8],
-    present: Switch,
+    v: Switch,
     arrival: Port,
-    destination: Switch,
+    d: Switch,
 ) -> Answer
     ensures { λ r. ⌜ told r (now (tag .exit))
-        ≡ stepped (now (sheet .entry)) (now (faults .entry)) (now (tag .entry)) (present .0) (arrival .0) (destination .0) ⌝ }
+        ≡ stepped (now (sheet .entry)) (now (faults .entry)) (now (tag .entry)) (v .0) (arrival .0) (d .0) ⌝ }
 {
     let lists = check_faults(sheet, faults);
     let Checked::Accepted(n, _) = lists else {
         return refused(lists_number(lists));
     };
-    let switches = check_switches(n, present, destination);
+    let switches = check_switches(n, v, d);
     let Check::Passed = switches else {
         return refused(switches.number());
     };
@@ -156,9 +156,8 @@ pub fn step(
         return refused(long.number());
     };
     let mut places = [0u16; 48];
-    let count = port_order(sheet, present, &mut places);
-    let order = &places[..count];
-    let arrived = check_arrival(sheet, order, faults, arrival);
+    let count = port_order(sheet, v, &mut places);
+    let arrived = check_arrival(sheet, &places[..count], faults, arrival);
     let Check::Passed = arrived else {
         return refused(arrived.number());
     };
@@ -166,9 +165,9 @@ pub fn step(
     let Check::Passed = fresh else {
         return refused(fresh.number());
     };
-    let known = check_cell(sheet, order, faults, Cell::read(tag, present));
+    let known = check_cell(sheet, &places[..count], faults, Cell::read(tag, v));
     let Check::Passed = known else {
         return refused(known.number());
     };
-    advance(sheet, order, faults, tag, present, arrival, destination).answer()
+    advance(sheet, &places[..count], faults, tag, v, arrival, d).answer()
 }

@@ -31,13 +31,13 @@ module _ (c : tie.Start) where
   tag = now (c .args .tag)
 
   abbrev v : ℕ
-  v = c .args .present .0
+  v = c .args .v .0
 
   abbrev arrival : ℕ
   arrival = c .args .arrival .0
 
   abbrev d : ℕ
-  d = c .args .destination .0
+  d = c .args .d .0
 
   abbrev order : List Cable
   order = portOrder (rowsOf sheet) v
@@ -116,7 +116,7 @@ at-9 c =
     (c .before .before .enum-told6 .given .1)
 
 abbrev back-9 : tie.After-check-cell → tie.After-check-fresh
-back-9 c = c .before .before .before .before .before
+back-9 c = c .before .before .before .before .before .before
 
 abbrev start-10 : tie.After-check-cell → tie.Start
 start-10 c = start-8 (back-8 (back-9 c))
@@ -125,7 +125,7 @@ at-10 : (c : tie.After-check-cell) → Left (start-10 c) (n-8 (back-8 (back-9 c)
 at-10 c =
     let a = start-10 c in
     passes (sheet a) (faults a) (tag a) (v a) (arrival a) (d a) (at-9 (back-9 c)) (back-9 c .check-fresh .ensures)
-    (c .before .before .before .enum-told8 .given .1)
+    (c .before .before .before .before .enum-told8 .given .1)
 
 known : (c : tie.After-check-cell)
     → c .check-cell .result ≡ cellRule (order (start-10 c)) (faults (start-10 c)) (cellOf (tag (start-10 c)) (v (start-10 c)))
@@ -220,8 +220,8 @@ port-order-requires c κs = search needs
 array-share-prefix-places : tie.Need-array-share-prefix-places
 array-share-prefix-places c = placed-within (c .port-order .ensures)
 
-slice-aggregate-order : tie.Need-slice-aggregate-order
-slice-aggregate-order c = placed-count (c .before .port-order .ensures)
+slice-aggregate-check-arrival : tie.Need-slice-aggregate-check-arrival
+slice-aggregate-check-arrival c = placed-count (c .before .port-order .ensures)
 
 check-arrival-requires : tie.Need-check-arrival-requires
 check-arrival-requires c κs = search needs
@@ -275,9 +275,15 @@ returns-5 c =
     refuses (sheet a) (faults a) (tag a) (v a) (arrival a) (d a) (at-9 here) (here .check-fresh .ensures)
     (c .refused5 .result) (c .before .before .enum-told9 .given .1) (c .before .number4 .ensures) (c .refused5 .ensures)
 
+array-share-prefix-places-2 : tie.Need-array-share-prefix-places-2
+array-share-prefix-places-2 c = placed-within (back-8 (c .before .before) .before .before .port-order .ensures)
+
+slice-aggregate-check-cell : tie.Need-slice-aggregate-check-cell
+slice-aggregate-check-cell c = placed-count (back-8 (c .before .before .before) .before .before .port-order .ensures)
+
 read-requires : tie.Need-read-requires
 read-requires c κs =
-    inside (c .before .before .before .before .before .before .before .before .before .before .before)
+    inside (c .before .before .before .before .before .before .before .before .before .before .before .before)
 
 check-cell-requires : tie.Need-check-cell-requires
 check-cell-requires c κs = search needs
@@ -304,9 +310,15 @@ returns-6 c =
     refuses (sheet a) (faults a) (tag a) (v a) (arrival a) (d a) (at-10 here) (known here)
     (c .refused6 .result) (c .before .before .enum-told11 .given .1) (c .before .number5 .ensures) (c .refused6 .ensures)
 
+array-share-prefix-places-3 : tie.Need-array-share-prefix-places-3
+array-share-prefix-places-3 c = placed-within (back-8 (back-9 (c .before .before)) .before .before .port-order .ensures)
+
+slice-aggregate-advance : tie.Need-slice-aggregate-advance
+slice-aggregate-advance c = placed-count (back-8 (back-9 (c .before .before .before)) .before .before .port-order .ensures)
+
 advance-requires : tie.Need-advance-requires
 advance-requires c κs =
-    let fresh = c .before .before .before .before .before .before .before .before in
+    let fresh = c .before .before .before .before .before .before .before .before .before .before in
     let here = fresh .before .before .before .before in
     let a = start-8 here in
     let lives = sym (arrived here) ∙ fresh .before .before .enum-told6 .given .1 in
@@ -323,9 +335,9 @@ same-length-5 c = search needs
 
 returns-7 : tie.Need-returns-7
 returns-7 c =
-    let here = c .before .before .before .before .before .before .before in
+    let here = c .before .before .before .before .before .before .before .before in
     let a = start-10 here in
-    let passed = c .before .before .before .before .before .enum-told10 .given .1 in
+    let passed = c .before .before .before .before .before .before .enum-told10 .given .1 in
     let last = passes (sheet a) (faults a) (tag a) (v a) (arrival a) (d a) (at-10 here) (known here) passed in
     let ordered = placed-order (sheet a) (v a) (back-8 (back-9 here) .before .before .port-order .ensures) in
     let on-order = ap (λ o. advanced o (faults a) (tag a) (v a) (arrival a) (d a)) ordered in
@@ -357,7 +369,7 @@ step-spec =
     returns-3
     port-order-requires
     array-share-prefix-places
-    slice-aggregate-order
+    slice-aggregate-check-arrival
     check-arrival-requires
     enum-told-6
     enum-told-7
@@ -372,6 +384,8 @@ step-spec =
     refused-requires-5
     same-length-3
     returns-5
+    array-share-prefix-places-2
+    slice-aggregate-check-cell
     read-requires
     check-cell-requires
     enum-told-10
@@ -380,6 +394,8 @@ step-spec =
     refused-requires-6
     same-length-4
     returns-6
+    array-share-prefix-places-3
+    slice-aggregate-advance
     advance-requires
     answer-requires
     same-length-5
