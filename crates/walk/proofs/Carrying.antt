@@ -7,12 +7,12 @@ use mathlib.Core.Logic.{⊎-elim}
 use native.Mathlib.Omega.{arith}
 use native.Mathlib.Numerals.{add-one}
 use lib.ListN.{length, take, drop, set, getD, replicate, length-append, length-drop, take-append-drop}
-use lib.Seq.{drop-cons, set-at, append-snoc}
+use lib.Seq.{drop-cons, set-at}
 use Rattle.sheet.specs.Cables.{rowsOf, switchesOf}
 use Rattle.sheet.specs.Cabling.{orderAt}
 use Rattle.sheet.specs.Sound.{Within, Sound}
 use Rattle.switch.specs.Answers.{movePaper}
-use Rattle.switch.specs.Step.{Stepped, Ready, awayOf, toldMove, advanced}
+use Rattle.switch.specs.Step.{Ready, toldMove, advanced}
 use Rattle.switch.specs.declared.step.Moved.{Moved}
 use Rattle.sheet.specs.declared.numbers.Port.{Port}
 use Rattle.switch.specs.declared.step.Move.{Move}

@@ -1,23 +1,20 @@
 -- P1 to P10 hold: the recursion on fuel (Computing.antt) gives the walk, and for each case it computes to what the paper says.
-use Prim.Native.Nat.{ℕ, _*_, _≤_}
-use mathlib.Core.Path.{_≡_, refl, ap, sym, subst, _∙_}
+use Prim.Native.Nat.{ℕ}
+use mathlib.Core.Path.{_≡_, refl, subst}
 use mathlib.Core.List.{List, [], _∷_, map}
 use mathlib.Core.Bool.{Bool, true, false}
-use lib.ListN.{length}
-use Rattle.sheet.specs.Lists.{pick, both, All}
+use Rattle.sheet.specs.Lists.{both, All}
 use Rattle.sheet.specs.Records.{formOf, recordAt, scan, wholes}
-use Rattle.sheet.specs.Cables.{rowsOf, switchesOf, within, cabled, rowRule, sheetReading}
+use Rattle.sheet.specs.Cables.{rowsOf, within, cabled, rowRule, sheetReading}
 use Rattle.sheet.specs.Faults.{faultRule, faultReading, faultsOf, live}
 use Rattle.sheet.specs.Order.{seenFrom, insert, sorted, portOrder, positionOf}
 use Rattle.sheet.specs.Refusals.{Answer, accepted, refused, listAnswer}
 use Rattle.sheet.specs.Sound.{Within}
-use Rattle.sheet.proofs.Tests.{decides-×}
-use Rattle.sheet.proofs.Rows.{decides-within}
 use Rattle.switch.specs.Choice.{firstOpen, choose}
 use Rattle.switch.specs.Step.{advanced}
-use Rattle.walk.specs.Walk.{Packet, stepOf, Walks, turnedAway, arrives}
+use Rattle.walk.specs.Walk.{stepOf, turnedAway, arrives}
 use Rattle.walk.specs.Cases.{Expected, ends, refuses, Case, Holds, cases}
-use Rattle.walk.proofs.Checking.{premises-pass, lists-refuse, off-sheet, lists-switches, lists-cables, lists-sound}
+use Rattle.walk.proofs.Checking.{on-sheet, premises-pass, lists-refuse, off-refuse, lists-switches, lists-cables, lists-sound}
 use Rattle.walk.proofs.Computing.{lastFrom, last-ends}
 
 -- what the recursion tells of a case
@@ -62,10 +59,9 @@ module _ (c : Case) where
           → both (within n (c .source)) (within n (c .destination)) ≡ b → Holds c (onSheet c b)
       by-sheet {n} lists true on =
           told-on lists
-          (decides-× (within n (c .source)) (within n (c .destination))
-          (decides-within n (c .source)) (decides-within n (c .destination)) .0 on)
+          (on-sheet (c .source) (c .destination) n .0 on)
       by-sheet lists false off = λ tag trace.
-          turnedAway (off-sheet (c .sheet) (c .faults) tag trace (c .source) (c .destination) lists off)
+          turnedAway (off-refuse (c .sheet) (c .faults) tag trace (c .source) (c .destination) lists off)
 
       by-answer : (answer : Answer) → listAnswer (c .sheet) (c .faults) ≡ answer → Holds c (onAnswer c answer)
       by-answer (refused number) e = λ tag trace.
@@ -79,5 +75,6 @@ all-told (c ∷ list) e =
     (subst (Holds c) here (told-holds c), all-told list (cc))
 
 pub cases-hold : All (λ c. Holds c (c .expected)) cases
-unfolding formOf recordAt scan wholes sheetReading rowsOf faultReading faultsOf faultRule rowRule cabled live listAnswer portOrder sorted insert seenFrom positionOf choose firstOpen advanced
+unfolding formOf recordAt scan wholes sheetReading rowsOf faultReading faultsOf faultRule rowRule cabled live listAnswer
+    portOrder sorted insert seenFrom positionOf choose firstOpen advanced
 cases-hold = all-told cases refl

@@ -1,19 +1,19 @@
 -- The steps of a walk are those of the checked step: refusals 8 to 10 never come in a walk, for what its packets carry names only live
 -- ports that are there, and the tag is all 0 as long as no hop was made.
 use Prim.Native.Nat.{ℕ, zero, suc, _*_, _≤_}
-use mathlib.Core.Path.{_≡_, refl, ap, sym, subst, _∙_}
-use mathlib.Core.List.{List, [], _∷_, map, reverse, reverse-reverse, cons≢nil}
+use mathlib.Core.Path.{_≡_, refl, ap, sym, _∙_}
+use mathlib.Core.List.{List, [], map, reverse}
 use mathlib.Core.Logic.{_⊎_, inl, inr}
 use mathlib.Core.Bool.{true}
 use native.Mathlib.Omega.{arith}
 use lib.ListN.{length, take, replicate, length-append, length-reverse}
 use lib.Seq.{take-all}
 use Rattle.sheet.specs.Lists.{_∈_}
-use Rattle.sheet.specs.Cables.{rowsOf, switchesOf}
+use Rattle.sheet.specs.Cables.{switchesOf}
 use Rattle.sheet.specs.Order.{isCabled}
 use Rattle.sheet.specs.Cabling.{orderAt, liveAt}
 use Rattle.sheet.specs.Refusals.{accepted, listAnswer}
-use Rattle.sheet.specs.Sound.{Within, Sound}
+use Rattle.sheet.specs.Sound.{Within}
 use Rattle.sheet.proofs.Lists.{map-in}
 use Rattle.sheet.proofs.Cabling.{portOf, in-cabled}
 use Rattle.switch.specs.Cell.{cellOf}

@@ -26,17 +26,18 @@ use Rattle.walk.specs.Condition3.{Premises}
 pub passed≢refused : {check : Check} {number : ℕ} → check ≡ Passed → check ≡ Refused number → ⊥
 passed≢refused p q = let z : _≡_ {A = ℕ} 0 1 = cc in omega arith
 
-module _ (s faults tag trace : List ℕ) (source destination : ℕ) where
-  on-sheet : (n : ℕ) → Decides (both (within n source) (within n destination)) (Within n source × Within n destination)
-  on-sheet n =
-      decides-× (within n source) (within n destination) (decides-within n source) (decides-within n destination)
+pub on-sheet : (source destination n : ℕ)
+    → Decides (both (within n source) (within n destination)) (Within n source × Within n destination)
+on-sheet source destination n =
+    decides-× (within n source) (within n destination) (decides-within n source) (decides-within n destination)
 
+module _ (s faults tag trace : List ℕ) (source destination : ℕ) where
   pub premises-pass : Premises s faults tag trace source destination → walkChecks s faults tag trace source destination ≡ Passed
   unfolding walkChecks
   premises-pass p =
       rw (
         p .lists,
-        on-sheet (p .n) .1 (p .source-on, p .destination-on),
+        on-sheet source destination (p .n) .1 (p .source-on, p .destination-on),
         le-leb (2 * p .n) (length tag) (p .tag-room),
         le-leb (4 * p .cables) (length trace) (p .trace-room),
       )
@@ -54,8 +55,8 @@ module _ (s faults tag trace : List ℕ) (source destination : ℕ) where
             n = n;
             cables = cables;
             lists = e;
-            source-on = on-sheet n .0 on .0;
-            destination-on = on-sheet n .0 on .1;
+            source-on = on-sheet source destination n .0 on .0;
+            destination-on = on-sheet source destination n .0 on .1;
             tag-room = leb-true (2 * n) (length tag) long;
             trace-room = leb-true (4 * cables) (length trace) room;
           }
@@ -76,10 +77,10 @@ module _ (s faults tag trace : List ℕ) (source destination : ℕ) where
   unfolding walkChecks
   lists-refuse e = rw e
 
-  pub off-sheet : {n cables : ℕ} → listAnswer s faults ≡ accepted n cables → both (within n source) (within n destination) ≡ false
+  pub off-refuse : {n cables : ℕ} → listAnswer s faults ≡ accepted n cables → both (within n source) (within n destination) ≡ false
       → walkChecks s faults tag trace source destination ≡ Refused 6
   unfolding walkChecks
-  off-sheet e off = rw (e, off)
+  off-refuse e off = rw (e, off)
 
 -- ---- what accepted lists say of the rows
 

@@ -1,7 +1,7 @@
 -- The packets of a walk on an accepted sheet make a run of its network: each hop is the published choice, read from and written to the
 -- tag's bytes. So all that the traversal says holds of them. The tag keeps its length, and the packet stays on the sheet.
-use Prim.Native.Nat.{ℕ, zero, suc, _+_, _*_, _≤_}
-use mathlib.Core.Path.{_≡_, refl, ap, sym, subst, _∙_}
+use Prim.Native.Nat.{ℕ, zero, suc, _*_, _≤_}
+use mathlib.Core.Path.{_≡_, refl, ap, _∙_}
 use mathlib.Core.List.{List, [], _∷_, reverse, reverse-append}
 use mathlib.Core.Logic.{_⊎_, inl, inr}
 use native.Mathlib.Omega.{arith}
@@ -9,12 +9,12 @@ use lib.ListN.{length, getD, replicate, length-replicate}
 use Rattle.sheet.specs.Cables.{rowsOf, switchesOf}
 use Rattle.sheet.specs.Cabling.{orderAt}
 use Rattle.sheet.specs.Sound.{Within, Sound}
-use Rattle.switch.specs.Choice.{Outcome, leaves}
+use Rattle.switch.specs.Choice.{Outcome}
 use Rattle.switch.specs.Cell.{cellOf, leftBy}
 use Rattle.switch.specs.Step.{Stepped}
 use Rattle.switch.proofs.Advancing.{cellThen, ChosenThere, Forwards, forwards, advanced-length}
 use Rattle.walk.specs.Network.{Cabled}
-use Rattle.walk.specs.Walk.{Packet, stepOf, carried, sent, Way}
+use Rattle.walk.specs.Walk.{Packet, stepOf, carried, Way}
 use Rattle.walk.specs.Condition3.{networkOf}
 use Rattle.walk.proofs.Running.{Packet as Traveller, ChosenAt, Hop, Run}
 use Rattle.walk.proofs.Darts.{dart}

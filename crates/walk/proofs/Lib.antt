@@ -16,6 +16,7 @@ pub mod Checking
 pub mod OneAnswer
 pub mod Computing
 pub mod Tender
+pub mod Exactly
 pub mod Rebuilding
 pub mod Room
 pub mod CheckedSteps

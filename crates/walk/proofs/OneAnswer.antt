@@ -1,14 +1,13 @@
 -- One answer: the promise of a walk leaves one result, both buffers included. The packet after so many hops is one packet, and a packet
 -- that is not forwarded is the last, so two walks from the same start end at the same hop.
-use Prim.Native.Nat.{ℕ, zero, suc, _+_, _<_}
+use Prim.Native.Nat.{ℕ, zero, suc, _<_}
 use mathlib.Core.Path.{_≡_, refl, ap, sym, subst, _∙_}
-use mathlib.Core.List.{List, [], _∷_, _++_}
-use mathlib.Core.Logic.{_⊎_, inl, inr}
+use mathlib.Core.List.{List}
 use native.Mathlib.Omega.{arith}
 use native.Mathlib.Decide.{ℕ-discrete}
 use native.Mathlib.Numerals.{add-one}
 use lib.ListN.{length, length-append}
-use Rattle.switch.specs.declared.checks.Check.the-variants.{Passed, Refused}
+use Rattle.switch.specs.declared.checks.Check.the-variants.{Refused}
 use Rattle.walk.specs.Walk.{Packet, stepOf, carried, sent, Way, Paper, ended, paperOf, Result, resultOf, refusedWith, endedWith}
 use Rattle.walk.specs.Walk.{Walks, turnedAway, arrives}
 use Rattle.walk.specs.declared.walk.End.{End}

@@ -12,8 +12,10 @@ use Rattle.sheet.specs.Rebuilt.{Rebuilt, sheetBytes}
 use Rattle.sheet.specs.declared.cables.Cable.{Cable}
 use Rattle.sheet.proofs.RebuiltSheet.{rebuilt-sheet}
 use Rattle.switch.specs.Step.{Stepped, advanced}
-use Rattle.walk.specs.Walk.{Packet, stepOf, carried, sent, Way, paper, checksOn, walkChecks, traceBytes, Result, endedWith}
+use Rattle.walk.specs.Walk.{Packet, stepOf, carried, Way, paper, checksOn, walkChecks, traceBytes, Result, resultOf, endedWith}
 use Rattle.walk.specs.Walk.{Walks, turnedAway, arrives}
+use Rattle.walk.specs.declared.walk.Walked.{Walked}
+use Rattle.walk.proofs.OneAnswer.{Told, one-walk}
 
 module _ {s s′ : List ℕ} (same : SameCabling s s′) (switches : switchesOf s ≡ switchesOf s′) (faults : List ℕ) (destination : ℕ) where
   step-same : (k : Packet) → stepOf s faults destination k ≡ stepOf s′ faults destination k
@@ -80,3 +82,12 @@ rebuilt-walk {s} {rows} {rows′} sheet rebuilt faults tag trace source destinat
       walks-same same refl faults destination tag trace source,
       walks-same (same-back same) refl faults destination tag trace source,
     )
+
+-- so the answer and both buffers that the promise of `walk` leaves are the same for both sheets
+pub rebuilt-answer : {s : List ℕ} {rows rows′ : List Cable} → AcceptedSheet s rows → Rebuilt rows rows′
+    → (faults tag trace : List ℕ) (source destination : ℕ) (w w′ : Walked) {tag′ trace′ tag″ trace″ : List ℕ}
+    → Told s faults tag trace source destination w tag′ trace′
+    → Told (sheetBytes (switchesOf s) rows′) faults tag trace source destination w′ tag″ trace″
+    → (w ≡ w′) × (tag′ ≡ tag″) × (trace′ ≡ trace″)
+rebuilt-answer sheet rebuilt faults tag trace source destination w w′ {tag′} {trace′} told =
+    one-walk w w′ (rebuilt-walk sheet rebuilt faults tag trace source destination (resultOf w tag′ trace′) .0 told)

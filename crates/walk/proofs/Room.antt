@@ -9,9 +9,9 @@ use lib.Seq.{take-at, drop-at, drop-append-le}
 use Rattle.sheet.specs.Cables.{rowsOf, switchesOf}
 use Rattle.sheet.specs.Refusals.{accepted, listAnswer}
 use Rattle.sheet.specs.Sound.{Within, Sound}
-use Rattle.switch.specs.declared.checks.Check.the-variants.{Passed, Refused}
+use Rattle.switch.specs.declared.checks.Check.the-variants.{Passed}
 use Rattle.walk.specs.Network.{Dart}
-use Rattle.walk.specs.Walk.{Packet, stepOf, Way, walkChecks, traceBytes, Result, endedWith, Walks, turnedAway, arrives}
+use Rattle.walk.specs.Walk.{Packet, Way, walkChecks, traceBytes, Result, endedWith, Walks, turnedAway, arrives}
 use Rattle.walk.specs.Condition3.{Premises}
 use Rattle.walk.proofs.Checking.{passed≢refused, premises-pass, passed-premises, lists-switches, lists-cables, lists-sound}
 use Rattle.walk.proofs.Following.{follows}

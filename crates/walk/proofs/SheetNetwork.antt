@@ -4,12 +4,10 @@ use Prim.Native.Nat.{ℕ}
 use mathlib.Core.Path.{_≡_, refl, ap, sym, subst, _∙_}
 use mathlib.Core.List.{List, [], _∷_, map}
 use mathlib.Core.Logic.{inl}
-use mathlib.Core.Bool.{true}
 use native.Mathlib.Omega.{arith}
-use Rattle.sheet.specs.Lists.{_∈_, Once}
-use Rattle.sheet.specs.Cables.{Socket, turned, socketOf, rowsOf}
+use Rattle.sheet.specs.Lists.{_∈_}
+use Rattle.sheet.specs.Cables.{turned, socketOf, rowsOf}
 use Rattle.sheet.specs.Faults.{live, faultsOf}
-use Rattle.sheet.specs.Order.{positionOf, cableOf, isLive}
 use Rattle.sheet.specs.Cabling.{orderAt, farAt, liveAt}
 use Rattle.sheet.specs.Sound.{Within, EndInRange, Sound, Seen, sockets}
 use Rattle.sheet.specs.declared.cables.Cable.{Cable}

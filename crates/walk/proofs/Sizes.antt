@@ -32,7 +32,7 @@ module _ {Row : Type 0} (N : Network Row) where
 
   module _ (s : ℕ) where
     -- a row that is counted
-    abbrev Counts : Row → Type 0
+    abbrev pub Counts : Row → Type 0
     Counts r = (N .live (N .one r) ≡ true) × (Reached N s (N .one r .switch) ⊎ Reached N s (N .other r .switch))
 
     pub counted : ((w : ℕ) → Dec (Reached N s w)) → (rs : List Row) → (m : ℕ) × Counted N s rs m
@@ -72,7 +72,7 @@ module _ {Row : Type 0} (N : Network Row) where
     )
 
     module _ (L : Lawful N) where
-      counts-due : (r : Row) → r ∈ N .rows → Counts r → Due N s (N .one r) × Due N s (N .other r)
+      pub counts-due : (r : Row) → r ∈ N .rows → Counts r → Due N s (N .one r) × Due N s (N .other r)
       counts-due r m (l, t) = by t
         where
           one : Live N (N .one r)

@@ -1,30 +1,30 @@
 -- Condition 3. The packets of a walk are a run of the sheet's network; at the destination it is delivered, and it finds no port only at
 -- home, after each live cable that is reached was crossed once each way.
-use Prim.Native.Nat.{ℕ, zero, suc, _+_, _-_, _*_, _≤_, _<_}
+use Prim.Native.Nat.{ℕ, _*_}
 use mathlib.Core.Path.{_≡_, refl, ap, sym, subst, _∙_}
 use mathlib.Core.List.{List, [], _∷_, _++_, reverse}
-use mathlib.Core.Logic.{inl, inr, ⊎-elim}
+use mathlib.Core.Logic.{_⊎_, inl, inr, ⊎-elim}
+use mathlib.Core.Bool.{true}
 use native.Mathlib.Omega.{arith}
-use native.Mathlib.Decide.{ℕ-discrete}
-use native.Mathlib.Numerals.{add-one}
-use lib.ListN.{length, drop, length-append, length-reverse}
-use Rattle.sheet.specs.Lists.{_∈_, Once, All}
-use Rattle.sheet.specs.Cables.{rowsOf, switchesOf}
+use lib.ListN.{length, drop, length-reverse}
+use Rattle.sheet.specs.Lists.{_∈_, All}
+use Rattle.sheet.specs.Cables.{socketOf, rowsOf, switchesOf}
+use Rattle.sheet.specs.Cabling.{liveAt}
 use Rattle.sheet.specs.Sound.{Within, Sound}
-use Rattle.switch.specs.Step.{Stepped, stopped}
+use Rattle.sheet.specs.declared.cables.Cable.{Cable}
+use Rattle.switch.specs.Step.{Stepped}
 use Rattle.switch.proofs.Advancing.{Ends, delivers, finds-none, ends}
-use Rattle.switch.specs.declared.checks.Check.{Check}
-use Rattle.switch.specs.declared.checks.Check.the-variants.{Passed, Refused}
-use Rattle.walk.specs.Network.{Dart, Live, Counted}
+use Rattle.walk.specs.Network.{Dart, Live}
 use Rattle.walk.specs.Walk.{Packet, Way, paper, traceBytes, Result, Walks, turnedAway, arrives}
 use Rattle.walk.specs.Condition3.{networkOf, Joined, Reachable, Premises, hopsIn, Condition3}
 use Rattle.sheet.proofs.Lists.{all-at, all-of}
 use Rattle.walk.proofs.Lists.{reverse-in, in-reverse, reverse-all, reverse-once}
 use Rattle.walk.proofs.Running.{Lawful, Run}
 use Rattle.walk.proofs.Darts.{Due}
+use Rattle.walk.proofs.Sizes.{counts-due}
 use Rattle.walk.proofs.SheetNetwork.{sheet-lawful}
 use Rattle.walk.proofs.Following.{travellerOf, Follows, chosen-at, follows}
-use Rattle.walk.proofs.Checking.{passed≢refused, premises-pass, passed-premises, lists-switches, lists-sound}
+use Rattle.walk.proofs.Checking.{passed≢refused, premises-pass, lists-switches, lists-sound}
 use Rattle.walk.proofs.Traversal.{run-once, run-chain, run-live, delivered-reached, delivered-bound, home, none-home, NoneHome}
 use Rattle.walk.proofs.Traversal.{counted-is, counted-one}
 
@@ -125,6 +125,16 @@ module _ (s faults tag trace : List ℕ) (source destination : ℕ) where
         rw (hops-told (k .trace) (drop (2 * length (k .trace)) trace))
         (condition-3 s faults source destination sound on way counted
         (ends (rowsOf s) faults (k .tag) (k .at) (k .arrival) destination sound end))
+
+    -- where none is reported, each cable that counts for M was crossed from its one end and from its other
+    pub each-cable : {r : Result} → Walks s faults tag trace source destination r → r .paper .end ≡ 2
+        → (c : Cable) → c ∈ rowsOf s → liveAt s faults (c .near .switch) (c .near .port) ≡ true
+        → Joined s faults source (c .near .switch) ⊎ Joined s faults source (c .far .switch)
+        → (socketOf (c .near) ∈ hopsIn (r .paper .hops) (r .trace)) × (socketOf (c .far) ∈ hopsIn (r .paper .hops) (r .trace))
+    each-cable walks none c at live reached =
+        let (near, far) = counts-due (networkOf s faults) source (sheet-lawful s faults sound) c at (live, reached) in
+        let crossed = walk-keeps (reachable-is .1) walks .each-way none in
+        (crossed (socketOf (c .near)) .1 near, crossed (socketOf (c .far)) .1 far)
 
     pub never-refused : {r : Result} → Walks s faults tag trace source destination r → r .paper .end ≡ 3 → ⊥
     never-refused walks e = ⊎-elim (λ one. omega arith) (λ two. omega arith) (walk-keeps (reachable-is .1) walks .ends)

@@ -1,5 +1,5 @@
 -- Condition 3 of the tender: where the walk delivers, after how many hops, and which cables it crosses.
-use Prim.Native.Nat.{ℕ, _+_, _-_, _*_, _≤_}
+use Prim.Native.Nat.{ℕ, _-_, _*_, _≤_}
 use mathlib.Core.Path.{_≡_}
 use mathlib.Core.List.{List, [], _∷_, map, reverse}
 use mathlib.Core.Logic.{_⊎_, _↔_}

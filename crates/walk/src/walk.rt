@@ -2,7 +2,7 @@
 ghost use mathlib.Core.Path.{_≡_};
 ghost use mathlib.Core.List.{_++_};
 ghost use Prim.Native.Nat.{ℕ, _*_, _≤_};
-ghost use lib.ListN.{length, take, drop, replicate};
+ghost use lib.ListN.{take, drop, replicate};
 ghost use Rattle.sheet.specs.Cables.{switchesOf};
 ghost use Rattle.sheet.specs.Cabling.{orderAt};
 ghost use Rattle.switch.specs.Step.{Ready, listsNumber, toldMove, advanced};
@@ -137,8 +137,9 @@ fn carry(
         trace[2 * hops] = at.0 as u8;
         trace[2 * hops + 1] = port.0 as u8;
         let far = moved.far;
+        let came = far.port;
         at = far.switch;
-        arrival = far.port;
+        arrival = came;
         hops += 1;
     }
 }

@@ -101,7 +101,7 @@ add-trace : tie.Need-add-trace Inv-loop μ-loop
 add-trace c = let h = room (c .before .before .before) in record { fits = omega arith }
 
 slice-write-trace-2 : tie.Need-slice-write-trace-2 Inv-loop μ-loop
-slice-write-trace-2 c = simp length-set (room (c .before .before .before) .bytes-left)
+slice-write-trace-2 c = let h = room (c .before .before .before) in simp length-set (omega arith)
 
 add-hops : tie.Need-add-hops Inv-loop μ-loop
 add-hops c = let h = room (c .before .before .before .before .before .before) in record { fits = omega arith }

@@ -112,7 +112,8 @@ returns-4 c =
     let a = lists .before .before .before .before .before .args in
     trace-turn-away (now (a .sheet)) (now (a .faults)) (now (a .tag)) (now (a .trace)) (a .source .0) (a .destination .0)
     (lists .check-faults .ensures) (switches .before .before .lists .given .1) (switches .check-switches .ensures)
-    (tag .before .before .enum-told2 .given .1) (tag .check-tag .ensures) (trace .before .before .enum-told4 .given .1) (trace .check-trace .ensures)
+    (tag .before .before .enum-told2 .given .1) (tag .check-tag .ensures)
+    (trace .before .before .enum-told4 .given .1) (trace .check-trace .ensures)
     (c .refused4 .result) (c .before .before .enum-told7 .given .1) (c .before .number3 .ensures) (c .refused4 .ensures)
 
 mul-clear : tie.Need-mul-clear
@@ -134,9 +135,12 @@ clear-requires c κs =
     let switches = tag .before .before .before .before in
     let lists = switches .before .before .before .before in
     let a = lists .before .before .before .before .before .args in
+    let fits =
     tag-fits (now (a .sheet)) (now (a .faults)) (now (a .tag)) (now (a .trace)) (a .source .0) (a .destination .0)
     (lists .check-faults .ensures) (switches .before .before .lists .given .1) (switches .check-switches .ensures)
-    (tag .before .before .enum-told2 .given .1) (tag .check-tag .ensures) (trace .before .before .enum-told4 .given .1)
+    (tag .before .before .enum-told2 .given .1) (tag .check-tag .ensures)
+    (trace .before .before .enum-told4 .given .1) in
+    omega arith
 
 carry-requires : tie.Need-carry-requires
 carry-requires c κs =
@@ -148,7 +152,8 @@ carry-requires c κs =
     let a = lists .before .before .before .before .before .args in
     ready-to-carry (now (a .sheet)) (now (a .faults)) (now (a .tag)) (now (a .trace)) (a .source .0) (a .destination .0)
     (lists .check-faults .ensures) (switches .before .before .lists .given .1) (switches .check-switches .ensures)
-    (tag .before .before .enum-told2 .given .1) (tag .check-tag .ensures) (trace .before .before .enum-told4 .given .1) (trace .check-trace .ensures)
+    (tag .before .before .enum-told2 .given .1) (tag .check-tag .ensures)
+    (trace .before .before .enum-told4 .given .1) (trace .check-trace .ensures)
     (clear .before .before .enum-told6 .given .1) (clear .clear .ensures)
 
 same-length-4 : tie.Need-same-length-4
@@ -168,7 +173,8 @@ returns-5 c =
     let a = lists .before .before .before .before .before .args in
     carried-through (now (a .sheet)) (now (a .faults)) (now (a .tag)) (now (a .trace)) (a .source .0) (a .destination .0)
     (lists .check-faults .ensures) (switches .before .before .lists .given .1) (switches .check-switches .ensures)
-    (tag .before .before .enum-told2 .given .1) (tag .check-tag .ensures) (trace .before .before .enum-told4 .given .1) (trace .check-trace .ensures)
+    (tag .before .before .enum-told2 .given .1) (tag .check-tag .ensures)
+    (trace .before .before .enum-told4 .given .1) (trace .check-trace .ensures)
     (clear .before .before .enum-told6 .given .1) (clear .clear .ensures) (carry .carry .result) (carry .carry .ensures)
 
 pub walk-spec : {M : Type 1} → statement M
