@@ -19,7 +19,7 @@ pub struct Cable {
 }
 
 impl End {
-    pub fn is_at(self, v: Switch, p: Port) -> bool
+    pub(crate) fn is_at(self, v: Switch, p: Port) -> bool
         ensures { λ r. ⌜ r ≡ isAt (v .0) (p .0) self ⌝ }
     {
         self.switch as u64 == v.0 && self.port as u64 == p.0
@@ -28,7 +28,7 @@ impl End {
 
 impl Cable {
     // The same cable, written from its other end.
-    pub fn turned(self) -> Cable
+    pub(crate) fn turned(self) -> Cable
         ensures { λ r. ⌜ r ≡ turned self ⌝ }
     {
         let near = self.near;
@@ -40,7 +40,7 @@ impl Cable {
     }
 
     // Whether this port of this switch carries an end of the cable.
-    pub fn carries(self, v: Switch, p: Port) -> bool
+    pub(crate) fn carries(self, v: Switch, p: Port) -> bool
         ensures { λ r. ⌜ r ≡ carries (v .0) (p .0) self ⌝ }
     {
         let near = self.near;
@@ -52,7 +52,7 @@ impl Cable {
     }
 }
 
-pub fn end_at(bytes: &[u8], at: usize) -> End
+pub(crate) fn end_at(bytes: &[u8], at: usize) -> End
     ensures { λ r. ⌜ r ≡ endAt (now (bytes .entry)) at ⌝ }
 {
     if bytes.len() <= at {
@@ -70,7 +70,7 @@ pub fn end_at(bytes: &[u8], at: usize) -> End
 }
 
 // The cable of the row whose kind byte stands at a position.
-pub fn cable_at(bytes: &[u8], at: usize) -> Cable
+pub(crate) fn cable_at(bytes: &[u8], at: usize) -> Cable
     ensures { λ r. ⌜ r ≡ cableAt (now (bytes .entry)) at ⌝ }
 {
     if bytes.len() <= at {

@@ -63,7 +63,7 @@ pub fn byte_at(bytes: &[u8], at: usize) -> u8
 }
 
 // Each entry is read at a fixed index: an index that is computed would have the whole table copied to the stack at every record.
-pub fn form_of(kind: u8) -> Form
+pub(crate) fn form_of(kind: u8) -> Form
     ensures { λ r. ⌜ r ≡ formOf kind ⌝ }
 {
     match kind {

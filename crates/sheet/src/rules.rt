@@ -20,7 +20,7 @@ pub enum Verdict {
 }
 
 impl Rule {
-    pub fn number(self) -> u64
+    pub(crate) fn number(self) -> u64
         ensures { λ r. ⌜ r ≡ numberOf self ⌝ }
     {
         match self {
