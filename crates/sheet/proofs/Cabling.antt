@@ -18,7 +18,8 @@ use Rattle.sheet.specs.Order.{seenFrom, sorted, portOrder, positionOf, c
 use Rattle.sheet.specs.Sound.{Within, RowInRange, sockets, Sound, Seen}
 use Rattle.sheet.specs.Rising.{PortOrder}
 use Rattle.sheet.specs.declared.cables.Cable.{Cable}
-use Rattle.sheet.proofs.Lists.{both-true, true-both, either-swap, either-assoc, same-test, any-found, found-any, all-at, map-in, once-same, once-finer, once-within, those, those-in, in-those, once-those}
+use Rattle.sheet.proofs.Lists.{both-true, true-both, either-swap, either-assoc, same-test, any-found, found-any, all-at, map-in}
+use Rattle.sheet.proofs.Lists.{once-same, once-finer, once-within, those, those-in, in-those, once-those}
 use Rattle.sheet.proofs.Permuted.{permuted-holds, permuted-once, permuted-map}
 use Rattle.sheet.proofs.Ordering.{keyOf, sorted-permuted, sorted-rising, rising-unique}
 

@@ -11,7 +11,8 @@ use Rattle.sheet.specs.Cables.{Socket, sheetReading, switchesOf}
 use Rattle.sheet.specs.Faults.{faultReading}
 use Rattle.sheet.specs.Refusals.{numberOf, accepted, refused, sheetAnswerOf, sheetAnswer, listAnswerOf, faultAnswerOf, listAnswer}
 use Rattle.sheet.specs.Accepted.{AcceptedSheet, AcceptedWith}
-use Rattle.sheet.specs.Exactly.{Refusal1, Refusal2, Refusal3, Refusal4, Refusal5, SheetRefusal, by-form, by-count, by-row, ListRefusal, by-fault-form, by-fault, BothAccepted, EitherRefused, of-sheet, of-list}
+use Rattle.sheet.specs.Exactly.{Refusal1, Refusal2, Refusal3, Refusal4, Refusal5, SheetRefusal, by-form, by-count, by-row}
+use Rattle.sheet.specs.Exactly.{ListRefusal, by-fault-form, by-fault, BothAccepted, EitherRefused, of-sheet, of-list}
 use Rattle.sheet.specs.declared.cables.Cable.{Cable}
 use Rattle.sheet.proofs.Right.{WrongWith}
 use Rattle.sheet.proofs.FaultList.{fault-tells, fault-right, fault-refused}

@@ -95,7 +95,8 @@ module _ (table : List ℕ) (v p : ℕ) (size : length table ≡ 64) (switch : W
               rw (getD-set-other table (v - 1) (w - 1) word 0 apart)
 
       by-range : (a : Bool) → within 64 w ≡ a → (b : Bool) → within 48 q ≡ b
-          → both (both a b) (bit q (getD new (w - 1) 0)) ≡ either (both (eqb v w) (eqb p q)) (both (both a b) (bit q (getD table (w - 1) 0)))
+          → both (both a b) (bit q (getD new (w - 1) 0)) ≡ either (both (eqb v w) (eqb p q)) (both (both a b) (bit q (getD table
+          (w - 1) 0)))
       by-range true e true f = here (decides-within 64 w .0 e .0)
       by-range true e false f = rw (elsewhere (λ s t. true≢false (decides-within 48 q .1 (subst (Within 48) t port)) f))
       by-range false e b f = rw (elsewhere (λ s t. true≢false (decides-within 64 w .1 (subst (Within 64) s switch)) e))
@@ -120,7 +121,8 @@ marks-snoc old middle new rows c size first second marks = record { size = size;
     ports : (v p : ℕ) → marked new v p ≡ cabled (rows ++ (c ∷ [])) v p
     ports v p =
         rw (second v p, first v p, marks .ports v p, cabled-snoc rows c v p)
-        (past (isAt v p (c .far)) (isAt v p (c .near)) (cabled rows v p) ∙ sym (either-assoc (isAt v p (c .near)) (isAt v p (c .far)) (cabled rows v p)))
+        (past (isAt v p (c .far)) (isAt v p (c .near)) (cabled rows v p)
+        ∙ sym (either-assoc (isAt v p (c .near)) (isAt v p (c .far)) (cabled rows v p)))
 
 -- a table of zeros marks nothing
 pub marks-none : Marks (replicate 64 0) []

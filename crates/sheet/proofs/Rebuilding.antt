@@ -13,7 +13,8 @@ use Rattle.sheet.specs.Rebuilt.{Rebuilt, none, row, swapped, twice}
 use Rattle.sheet.specs.declared.cables.Cable.{Cable}
 use Rattle.sheet.proofs.Lists.{same-test, all-of}
 use Rattle.sheet.proofs.Permuted.{Permuted, permuted-back, permuted-in, permuted-once, permuted-map, permuted-past}
-use Rattle.sheet.proofs.Cabling.{socketAt, bothWays, in-bothWays, bothWays-in, sockets-both, cabled-seen, seen-cabled, seen-range, port-order, port-order-one}
+use Rattle.sheet.proofs.Cabling.{socketAt, bothWays, in-bothWays, bothWays-in, sockets-both, cabled-seen, seen-cabled}
+use Rattle.sheet.proofs.Cabling.{seen-range, port-order, port-order-one}
 
 -- a row turned swaps its two readings; two rows swapped move the two readings of the one past those of the other
 rebuilt-both : {rows rows′ : List Cable} → Rebuilt rows rows′ → Permuted (bothWays rows) (bothWays rows′)

@@ -14,7 +14,8 @@ use Rattle.sheet.specs.declared.rules.Rule.{Rule}
 use Rattle.sheet.specs.declared.rules.Verdict.{Verdict}
 use Rattle.sheet.specs.declared.rules.Verdict.the-variants.{Fine, Breaks}
 use Rattle.sheet.proofs.Tests.{Judges, when-fine, when-breaks, fine-when}
-use Rattle.sheet.proofs.Scan.{record-ended, record-kind, record-cut, record-whole, found-is, Scanned, ended, kind, cut, full, breaks, fine, scan-is, is-scan}
+use Rattle.sheet.proofs.Scan.{record-ended, record-kind, record-cut, record-whole, found-is, Scanned, ended, kind, cut, full}
+use Rattle.sheet.proofs.Scan.{breaks, fine, scan-is, is-scan}
 
 -- a reading that finds something wrong, of this refusal number
 pub record WrongWith {A : Type 0} (number : ℕ) (reading : Reading A) : Type 0 where

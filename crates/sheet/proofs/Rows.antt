@@ -16,9 +16,11 @@ use Rattle.sheet.specs.Exactly.{Names}
 use Rattle.sheet.specs.declared.cables.End.{End}
 use Rattle.sheet.specs.declared.cables.Cable.{Cable}
 use Rattle.sheet.specs.declared.rules.Rule.{Rule}
-use Rattle.sheet.specs.declared.rules.Rule.the-variants.{SheetForm, SwitchRange, PortRange, SameSwitch, PortUsed, FaultForm, FaultUncabled}
+use Rattle.sheet.specs.declared.rules.Rule.the-variants.{SheetForm, SwitchRange, PortRange, SameSwitch, PortUsed, FaultForm}
+use Rattle.sheet.specs.declared.rules.Rule.the-variants.{FaultUncabled}
 use Rattle.sheet.specs.declared.rules.Verdict.the-variants.{Fine, Breaks}
-use Rattle.sheet.proofs.Tests.{Decides, true≢false, decides-≤, decides-≡, decides-×, decides-⊎, Judges, obeyed, when-fine, when-breaks, fine-when, judges-pass, judges-fail}
+use Rattle.sheet.proofs.Tests.{Decides, true≢false, decides-≤, decides-≡, decides-×, decides-⊎, Judges, obeyed, when-fine}
+use Rattle.sheet.proofs.Tests.{when-breaks, fine-when, judges-pass, judges-fail}
 use Rattle.sheet.proofs.Right.{Listing}
 
 abbrev socket : ℕ → ℕ → Socket

@@ -34,8 +34,8 @@ abbrev pub IsPart : RefT (List ℕ) → RefT (List ℕ) → Part → RefT (List 
 IsPart sheet faults (OfSheet start size) part = PartOf sheet start size part
 IsPart sheet faults (OfFaults start size) part = PartOf faults start size part
 
--- the part as one number, for a host program in C: 4294967296 where it is of the fault list, 65536 times its start, and its length; both are
--- below 65536 whatever the bytes, as the first wrong record stands among the first 513
+-- the part as one number, for a host program in C: 4294967296 where it is of the fault list, 65536 times its start, and its length; both
+-- are below 65536 whatever the bytes, as the first wrong record stands among the first 513
 abbrev pub packed : ℕ → ℕ → ℕ → ℕ
 packed list start size =
     pick (ltb start 65536) (pick (ltb size 65536) (4294967296 * list + 65536 * start + size) 18446744073709551615) 18446744073709551615

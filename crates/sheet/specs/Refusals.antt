@@ -7,7 +7,8 @@ use Rattle.sheet.specs.Cables.{Socket, sheetReading, switchesOf}
 use Rattle.sheet.specs.Faults.{faultReading}
 use Rattle.sheet.specs.declared.cables.Cable.{Cable}
 use Rattle.sheet.specs.declared.rules.Rule.{Rule}
-use Rattle.sheet.specs.declared.rules.Rule.the-variants.{SheetForm, SwitchCount, SwitchRange, PortRange, SameSwitch, PortUsed, FaultForm, FaultUncabled}
+use Rattle.sheet.specs.declared.rules.Rule.the-variants.{SheetForm, SwitchCount, SwitchRange, PortRange, SameSwitch, PortUsed}
+use Rattle.sheet.specs.declared.rules.Rule.the-variants.{FaultForm, FaultUncabled}
 use Rattle.sheet.specs.declared.check.Checked.{Checked}
 use Rattle.sheet.specs.declared.check.Checked.the-variants.{Accepted, Refused}
 

@@ -54,7 +54,8 @@ fn judge_row(c: Cable, n: u64, used: &[u64; 64]) -> Verdict
 // Whether the fault at a position names a used port.
 fn is_fault_cabled(faults: &[u8], at: usize, used: &[u64; 64]) -> bool
     requires { ⌜ at < length (now faults) ⌝ }
-    ensures { λ r. ⌜ ((rows : List Row) → Marks (now (used .entry)) rows → r ≡ cabled rows (getD (now (faults .entry)) (at + 1) 0) (getD (now (faults .entry)) (at + 2) 0)) ⌝ }
+    ensures { λ r. ⌜ ((rows : List Row) → Marks (now (used .entry)) rows
+        → r ≡ cabled rows (getD (now (faults .entry)) (at + 1) 0) (getD (now (faults .entry)) (at + 2) 0)) ⌝ }
 {
     let v = byte_at(faults, at + 1) as u64;
     let p = byte_at(faults, at + 2) as u64;
@@ -65,7 +66,8 @@ fn is_fault_cabled(faults: &[u8], at: usize, used: &[u64; 64]) -> bool
 fn read_rows(sheet: &[u8], n: u64, from: usize, used: &mut [u64; 64]) -> Told
     requires { ⌜ Marks (now used) [] × (n ≤ 64) ⌝ }
     ensures { λ r. ⌜ r ≡ toldOf (scan row SheetForm cableAt (rowRule n) 512 (now (sheet .entry)) from []) ⌝ }
-    ensures { λ r. ⌜ ((rows : List Row) → scan row SheetForm cableAt (rowRule n) 512 (now (sheet .entry)) from [] ≡ right rows → Marks (now (used .exit)) rows) ⌝ }
+    ensures { λ r. ⌜ ((rows : List Row) → scan row SheetForm cableAt (rowRule n) 512 (now (sheet .entry)) from [] ≡ right rows
+        → Marks (now (used .exit)) rows) ⌝ }
 {
     let mut at = from;
     let mut cables: u64 = 0;

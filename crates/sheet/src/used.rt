@@ -54,7 +54,8 @@ pub fn use_cable(used: &mut [u64; 64], c: Cable)
 
 // Whether either end of a cable has a port that is used.
 pub fn is_either_used(used: &[u64; 64], c: Cable) -> bool
-    ensures { λ r. ⌜ r ≡ either (marked (now (used .entry)) (c .near .switch) (c .near .port)) (marked (now (used .entry)) (c .far .switch) (c .far .port)) ⌝ }
+    ensures { λ r. ⌜ r ≡ either (marked (now (used .entry)) (c .near .switch) (c .near .port))
+        (marked (now (used .entry)) (c .far .switch) (c .far .port)) ⌝ }
 {
     if is_used(used, c.near.switch as u64, c.near.port as u64) {
         return true;

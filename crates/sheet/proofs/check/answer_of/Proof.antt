@@ -19,7 +19,8 @@ returns : tie.Need-returns
 returns c = sym (ap (checkedOf (c .before .before .before .args .n)) (c .before .told .given .1))
 
 returns-2 : tie.Need-returns-2
-returns-2 c = ap Refused (c .number .ensures) ∙ sym (ap (checkedOf (c .before .before .before .before .args .n)) (c .before .before .told2 .given .1))
+returns-2 c = ap Refused (c .number .ensures) ∙ sym (ap (checkedOf (c .before .before .before .before .args .n))
+    (c .before .before .told2 .given .1))
 
 pub answer-of-spec : {M : Type 1} → statement M
 answer-of-spec =

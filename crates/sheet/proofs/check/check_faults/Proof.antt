@@ -38,7 +38,8 @@ returns : tie.Need-returns
 unfolding listAnswer
 returns c = let s = now (c .before .before .before .before .before .before .before .before .before .args .sheet) in
     let e = told-wrong (sheetReading s) (sym (c .before .before .before .read-sheet .ensures .0) ∙ c .before .enum-told .given .1) in
-    rw e (ap answerOf (c .answer-of .ensures ∙ ap (checkedOf (c .before .before .before .before .before .byte-at .result)) (c .before .enum-told .given .1)))
+    rw e (ap answerOf (c .answer-of .ensures ∙ ap (checkedOf (c .before .before .before .before .before .byte-at .result))
+    (c .before .enum-told .given .1)))
 
 read-faults-requires : tie.Need-read-faults-requires
 read-faults-requires c κs = search needs
@@ -56,19 +57,28 @@ returns-2 : tie.Need-returns-2
 unfolding listAnswer
 returns-2 c = let s = now (c .before .before .before .before .before .before .before .before .before .before .before .before .before .before .args .sheet) in
     let f = now (c .before .before .before .before .before .before .before .before .before .before .before .before .before .before .args .faults) in
-    let told = told-right (sheetReading s) (sym (c .before .before .before .before .before .before .before .before .read-sheet .ensures .0) ∙ c .before .before .before .before .before .before .told .given .1) in
+    let told = told-right (sheetReading s) (sym
+    (c .before .before .before .before .before .before .before .before .read-sheet .ensures .0)
+    ∙ c .before .before .before .before .before .before .told .given .1) in
     let marks = c .before .before .before .before .before .before .before .before .read-sheet .ensures .1 (told .records) (told .read) in
-    let e = told-wrong (faultReading (told .records) f) (sym (c .before .before .before .read-faults .ensures (told .records) marks) ∙ c .before .enum-told3 .given .1) in
-    rw (told .read, e) (ap answerOf (c .answer-of2 .ensures ∙ ap (checkedOf (c .before .before .before .before .before .before .before .before .before .before .byte-at .result)) (c .before .enum-told3 .given .1)))
+    let e = told-wrong (faultReading (told .records) f) (sym (c .before .before .before .read-faults .ensures
+    (told .records) marks) ∙ c .before .enum-told3 .given .1) in
+    rw (told .read, e) (ap answerOf (c .answer-of2 .ensures ∙ ap (checkedOf
+    (c .before .before .before .before .before .before .before .before .before .before .byte-at .result))
+    (c .before .enum-told3 .given .1)))
 
 returns-3 : tie.Need-returns-3
 unfolding listAnswer
 returns-3 c = let s = now (c .before .before .before .before .before .before .before .before .before .before .before .before .before .args .sheet) in
     let f = now (c .before .before .before .before .before .before .before .before .before .before .before .before .before .args .faults) in
-    let told = told-right (sheetReading s) (sym (c .before .before .before .before .before .before .before .read-sheet .ensures .0) ∙ c .before .before .before .before .before .told .given .1) in
+    let told = told-right (sheetReading s) (sym
+    (c .before .before .before .before .before .before .before .read-sheet .ensures .0)
+    ∙ c .before .before .before .before .before .told .given .1) in
     let marks = c .before .before .before .before .before .before .before .read-sheet .ensures .1 (told .records) (told .read) in
-    let list = told-right (faultReading (told .records) f) (sym (c .before .before .read-faults .ensures (told .records) marks) ∙ c .enum-told2 .given .1) in
-    rw (told .read, list .read) (ap₂ accepted (c .before .before .before .before .before .before .before .before .before .byte-at .ensures) (told .counted))
+    let list = told-right (faultReading (told .records) f) (sym (c .before .before .read-faults .ensures (told .records) marks)
+    ∙ c .enum-told2 .given .1) in
+    rw (told .read, list .read) (ap₂ accepted
+    (c .before .before .before .before .before .before .before .before .before .byte-at .ensures) (told .counted))
 
 pub check-faults-spec : {M : Type 1} → statement M
 check-faults-spec =

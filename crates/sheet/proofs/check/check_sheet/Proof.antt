@@ -30,7 +30,8 @@ answer-of-requires c κs = search needs
 returns : tie.Need-returns
 unfolding sheetAnswer
 returns c = let s = now (c .before .before .before .before .before .before .args .sheet) in
-    ap answerOf (c .answer-of .ensures) ∙ ap (λ told. answerOf (checkedOf (c .before .byte-at .result) told)) (c .before .before .read-sheet .ensures .0)
+    ap answerOf (c .answer-of .ensures) ∙ ap (λ told. answerOf (checkedOf (c .before .byte-at .result) told))
+    (c .before .before .read-sheet .ensures .0)
     ∙ sheet-checked (c .before .byte-at .result) (sheetReading s) ∙ ap (λ n. sheetAnswerOf n (sheetReading s)) (c .before .byte-at .ensures)
 
 pub check-sheet-spec : {M : Type 1} → statement M

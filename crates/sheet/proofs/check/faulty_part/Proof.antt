@@ -20,17 +20,22 @@ use Rattle.sheet.proofs.reading.read_sheet.Reads as read-sheet-reads
 use Rattle.sheet.proofs.used.no_port_used.Reads as no-port-used-reads
 
 -- on a right sheet: its rows, the ports that they use, and the first wrong fault
-sheet-rows : (c : tie.After-enum-told) → RightTold (sheetReading (now (c .before .before .before .before .before .before .before .args .sheet))) (c .enum-told .given .0 .0)
-sheet-rows c = told-right (sheetReading (now (c .before .before .before .before .before .before .before .args .sheet))) (sym (c .before .before .read-sheet .ensures .0) ∙ c .enum-told .given .1)
+sheet-rows : (c : tie.After-enum-told) → RightTold (sheetReading (now
+    (c .before .before .before .before .before .before .before .args .sheet))) (c .enum-told .given .0 .0)
+sheet-rows c = told-right (sheetReading (now (c .before .before .before .before .before .before .before .args .sheet))) (sym
+    (c .before .before .read-sheet .ensures .0) ∙ c .enum-told .given .1)
 
 sheet-marks : (c : tie.After-enum-told) → Marks (c .before .before .read-sheet .last .1 .0) (sheet-rows c .records)
 sheet-marks c = c .before .before .read-sheet .ensures .1 (sheet-rows c .records) (sheet-rows c .read)
 
-list-wrong : (c : tie.After-list) → faultReading (sheet-rows (c .before .before .before .before) .records) (now (c .before .before .before .before .before .before .before .before .before .before .before .args .faults))
+list-wrong : (c : tie.After-list) → faultReading (sheet-rows (c .before .before .before .before) .records) (now
+    (c .before .before .before .before .before .before .before .before .before .before .before .args .faults))
     ≡ wrong (c .list .given .0 .0) (c .list .given .0 .1 .0) (c .list .given .0 .1 .1 .0)
 list-wrong c =
-    told-wrong (faultReading (sheet-rows (c .before .before .before .before) .records) (now (c .before .before .before .before .before .before .before .before .before .before .before .args .faults)))
-    (sym (c .before .before .read-faults .ensures (sheet-rows (c .before .before .before .before) .records) (sheet-marks (c .before .before .before .before))) ∙ c .list .given .1)
+    told-wrong (faultReading (sheet-rows (c .before .before .before .before) .records) (now
+    (c .before .before .before .before .before .before .before .before .before .before .before .args .faults)))
+    (sym (c .before .before .read-faults .ensures (sheet-rows (c .before .before .before .before) .records) (sheet-marks
+    (c .before .before .before .before))) ∙ c .list .given .1)
 
 -- src/check.rt:62:20
 no-port-used-requires : tie.Need-no-port-used-requires
@@ -73,8 +78,10 @@ enum-told-2 c = search needs
 returns-3 : tie.Need-returns-3
 unfolding faultyPart
 returns-3 c = let list =
-    told-right (faultReading (sheet-rows (c .before .before .before .before) .records) (now (c .before .before .before .before .before .before .before .before .before .before .before .args .faults)))
-    (sym (c .before .before .read-faults .ensures (sheet-rows (c .before .before .before .before) .records) (sheet-marks (c .before .before .before .before))) ∙ c .enum-told2 .given .1) in
+    told-right (faultReading (sheet-rows (c .before .before .before .before) .records) (now
+    (c .before .before .before .before .before .before .before .before .before .before .before .args .faults)))
+    (sym (c .before .before .read-faults .ensures (sheet-rows (c .before .before .before .before) .records) (sheet-marks
+    (c .before .before .before .before))) ∙ c .enum-told2 .given .1) in
     rw (sheet-rows (c .before .before .before .before) .read, list .read)
 
 pub faulty-part-spec : {M : Type 1} → statement M

@@ -25,7 +25,9 @@ enum-known-part c = search needs
 
 -- src/check.rt:80:53
 add-result : tie.Need-add-result
-add-result c = let inside = part-inside (now (c .before .before .before .before .before .before .args .sheet)) (now (c .before .before .before .before .before .before .args .faults)) (sym (c .before .part .given .1) ∙ c .before .before .before .faulty-part .ensures) in
+add-result c = let inside = part-inside (now (c .before .before .before .before .before .before .args .sheet)) (now
+    (c .before .before .before .before .before .before .args .faults)) (sym (c .before .part .given .1)
+    ∙ c .before .before .before .faulty-part .ensures) in
     omega (arith, c .before .before .before .before .before .before .good)
 
 -- src/check.rt:80:39
@@ -38,7 +40,9 @@ part-result-start c = search needs
 
 -- src/check.rt:80:39
 part-result-end : tie.Need-part-result-end
-part-result-end c = part-inside (now (c .before .before .before .before .before .before .args .sheet)) (now (c .before .before .before .before .before .before .args .faults)) (sym (c .before .part .given .1) ∙ c .before .before .before .faulty-part .ensures)
+part-result-end c = part-inside (now (c .before .before .before .before .before .before .args .sheet)) (now
+    (c .before .before .before .before .before .before .args .faults)) (sym (c .before .part .given .1)
+    ∙ c .before .before .before .faulty-part .ensures)
 
 -- src/check.rt:81:24
 enum-known-part-2 : tie.Need-enum-known-part-2
@@ -46,7 +50,9 @@ enum-known-part-2 c = search needs
 
 -- src/check.rt:81:55
 add-result-2 : tie.Need-add-result-2
-add-result-2 c = let inside = part-inside (now (c .before .before .before .before .before .before .args .sheet)) (now (c .before .before .before .before .before .before .args .faults)) (sym (c .before .part2 .given .1) ∙ c .before .before .before .faulty-part .ensures) in
+add-result-2 c = let inside = part-inside (now (c .before .before .before .before .before .before .args .sheet)) (now
+    (c .before .before .before .before .before .before .args .faults)) (sym (c .before .part2 .given .1)
+    ∙ c .before .before .before .faulty-part .ensures) in
     omega (arith, c .before .before .before .before .before .before .good)
 
 -- src/check.rt:81:40
@@ -59,21 +65,31 @@ part-result-start-2 c = search needs
 
 -- src/check.rt:81:40
 part-result-end-2 : tie.Need-part-result-end-2
-part-result-end-2 c = part-inside (now (c .before .before .before .before .before .before .args .sheet)) (now (c .before .before .before .before .before .before .args .faults)) (sym (c .before .part2 .given .1) ∙ c .before .before .before .faulty-part .ensures)
+part-result-end-2 c = part-inside (now (c .before .before .before .before .before .before .args .sheet)) (now
+    (c .before .before .before .before .before .before .args .faults)) (sym (c .before .part2 .given .1)
+    ∙ c .before .before .before .faulty-part .ensures)
 
 -- src/check.rt:75:1
 returns : tie.Need-returns
 returns c = let s = now (c .before .before .before .before .before .before .before .args .sheet) in
     let start = c .before .before .part .given .0 .0 in
     rw (sym (c .before .before .before .before .faulty-part .ensures) ∙ c .before .before .part .given .1)
-    (record { bytes = ap (λ k. take k (drop start s)) (add-sub-cancel-left start (c .before .before .part .given .0 .1 .0)); begins = refl })
+    (record {
+      bytes = ap (λ k. take k (drop start s)) (add-sub-cancel-left start
+          (c .before .before .part .given .0 .1 .0));
+      begins = refl;
+    })
 
 -- src/check.rt:75:1
 returns-2 : tie.Need-returns-2
 returns-2 c = let f = now (c .before .before .before .before .before .before .before .args .faults) in
     let start = c .before .before .part2 .given .0 .0 in
     rw (sym (c .before .before .before .before .faulty-part .ensures) ∙ c .before .before .part2 .given .1)
-    (record { bytes = ap (λ k. take k (drop start f)) (add-sub-cancel-left start (c .before .before .part2 .given .0 .1 .0)); begins = refl })
+    (record {
+      bytes = ap (λ k. take k (drop start f)) (add-sub-cancel-left start
+          (c .before .before .part2 .given .0 .1 .0));
+      begins = refl;
+    })
 
 pub faulty-row-spec : {M : Type 1} → statement M
 faulty-row-spec =

@@ -31,11 +31,13 @@ pack-requires-2 c κs = search needs
 
 -- src/door.rt:24:1
 returns : tie.Need-returns
-returns c = c .pack .ensures ∙ ap partNumber (sym (c .before .before .part .given .1) ∙ c .before .before .before .before .faulty-part .ensures)
+returns c = c .pack .ensures ∙ ap partNumber (sym (c .before .before .part .given .1)
+    ∙ c .before .before .before .before .faulty-part .ensures)
 
 -- src/door.rt:24:1
 returns-2 : tie.Need-returns-2
-returns-2 c = c .pack2 .ensures ∙ ap partNumber (sym (c .before .before .part2 .given .1) ∙ c .before .before .before .before .faulty-part .ensures)
+returns-2 c = c .pack2 .ensures ∙ ap partNumber (sym (c .before .before .part2 .given .1)
+    ∙ c .before .before .before .before .faulty-part .ensures)
 
 pub sheet-faulty-row-spec : {M : Type 1} → statement M
 sheet-faulty-row-spec =

@@ -28,7 +28,8 @@ is-used-requires c κs = search needs
 
 returns : tie.Need-returns
 returns c = λ rows marks.
-    c .is-used .ensures ∙ marks .ports (c .before .before .byte-at .result) (c .before .byte-at2 .result) ∙ ap₂ (cabled rows) (c .before .before .byte-at .ensures) (c .before .byte-at2 .ensures)
+    c .is-used .ensures ∙ marks .ports (c .before .before .byte-at .result) (c .before .byte-at2 .result)
+    ∙ ap₂ (cabled rows) (c .before .before .byte-at .ensures) (c .before .byte-at2 .ensures)
 
 pub is-fault-cabled-spec : {M : Type 1} → statement M
 is-fault-cabled-spec =

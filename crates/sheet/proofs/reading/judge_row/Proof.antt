@@ -30,13 +30,24 @@ are-within-requires-2 c κs = search needs
 
 returns-2 : tie.Need-returns-2
 unfolding rowRule
-returns-2 c = λ before marks. rw (sym (c .before .before .before .before .before .are-within .ensures) ∙ not-false _ (c .before .before .before .before .if1 .left), sym (c .before .are-within2 .ensures) ∙ not-true _ (c .if2 .taken))
+returns-2 c = λ before marks. rw (
+  sym (c .before .before .before .before .before .are-within .ensures)
+      ∙ not-false _ (c .before .before .before .before .if1 .left),
+  sym (c .before .are-within2 .ensures) ∙ not-true _ (c .if2 .taken),
+)
 
 returns-3 : tie.Need-returns-3
 unfolding rowRule
 returns-3 c = λ before marks.
     let a = c .before .before .before .before .before .before .before .before .before .before .args in
-    rw (sym (c .before .before .before .before .before .before .before .are-within .ensures) ∙ not-false _ (c .before .before .before .before .before .before .if1 .left), sym (c .before .before .before .are-within2 .ensures) ∙ not-false _ (c .before .before .if2 .left), eq-eqb (a .c .near .switch) (a .c .far .switch) (c .if3 .taken))
+    rw (
+      sym (c .before .before .before .before .before .before .before .are-within .ensures)
+          ∙ not-false _ (c .before .before .before .before .before .before .if1 .left),
+      sym
+          (c .before .before .before .are-within2 .ensures) ∙ not-false _ (c .before .before .if2 .left),
+      eq-eqb
+          (a .c .near .switch) (a .c .far .switch) (c .if3 .taken),
+    )
 
 is-either-used-requires : tie.Need-is-either-used-requires
 is-either-used-requires c κs = search needs
@@ -45,13 +56,37 @@ returns-4 : tie.Need-returns-4
 unfolding rowRule
 returns-4 c = λ before marks.
     let a = c .before .before .before .before .before .before .before .before .before .before .before .before .args in
-    rw (sym (c .before .before .before .before .before .before .before .before .before .are-within .ensures) ∙ not-false _ (c .before .before .before .before .before .before .before .before .if1 .left), sym (c .before .before .before .before .before .are-within2 .ensures) ∙ not-false _ (c .before .before .before .before .if2 .left), ne-eqb (a .c .near .switch) (a .c .far .switch) (c .before .before .if3 .left), ← marks .ports (a .c .near .switch) (a .c .near .port), ← marks .ports (a .c .far .switch) (a .c .far .port), sym (c .before .is-either-used .ensures) ∙ c .if4 .taken)
+    rw (
+      sym (c .before .before .before .before .before .before .before .before .before .are-within .ensures)
+          ∙ not-false _ (c .before .before .before .before .before .before .before .before .if1 .left),
+      sym
+          (c .before .before .before .before .before .are-within2 .ensures)
+          ∙ not-false _ (c .before .before .before .before .if2 .left),
+      ne-eqb (a .c .near .switch) (a .c .far .switch)
+          (c .before .before .if3 .left),
+      ← marks .ports (a .c .near .switch) (a .c .near .port),
+      ← marks .ports
+          (a .c .far .switch) (a .c .far .port),
+      sym (c .before .is-either-used .ensures) ∙ c .if4 .taken,
+    )
 
 returns-5 : tie.Need-returns-5
 unfolding rowRule
 returns-5 c = λ before marks.
     let a = c .before .before .before .before .before .before .before .before .before .before .before .before .args in
-    rw (sym (c .before .before .before .before .before .before .before .before .before .are-within .ensures) ∙ not-false _ (c .before .before .before .before .before .before .before .before .if1 .left), sym (c .before .before .before .before .before .are-within2 .ensures) ∙ not-false _ (c .before .before .before .before .if2 .left), ne-eqb (a .c .near .switch) (a .c .far .switch) (c .before .before .if3 .left), ← marks .ports (a .c .near .switch) (a .c .near .port), ← marks .ports (a .c .far .switch) (a .c .far .port), sym (c .before .is-either-used .ensures) ∙ c .if4 .left)
+    rw (
+      sym (c .before .before .before .before .before .before .before .before .before .are-within .ensures)
+          ∙ not-false _ (c .before .before .before .before .before .before .before .before .if1 .left),
+      sym
+          (c .before .before .before .before .before .are-within2 .ensures)
+          ∙ not-false _ (c .before .before .before .before .if2 .left),
+      ne-eqb (a .c .near .switch) (a .c .far .switch)
+          (c .before .before .if3 .left),
+      ← marks .ports (a .c .near .switch) (a .c .near .port),
+      ← marks .ports
+          (a .c .far .switch) (a .c .far .port),
+      sym (c .before .is-either-used .ensures) ∙ c .if4 .left,
+    )
 
 pub judge-row-spec : {M : Type 1} → statement M
 judge-row-spec =

@@ -15,12 +15,14 @@ use Rattle.sheet.specs.Told.{toldOf}
 use Rattle.sheet.specs.declared.cables.Cable.{Cable}
 use Rattle.sheet.specs.declared.rules.Rule.the-variants.{FaultForm}
 use Rattle.sheet.proofs.Scan.{found-is}
-use Rattle.sheet.proofs.Through.{Through, through-start, through-ended, through-kind, through-cut, through-full, through-breaks, through-fine}
+use Rattle.sheet.proofs.Through.{Through, through-start, through-ended, through-kind, through-cut, through-full, through-breaks}
+use Rattle.sheet.proofs.Through.{through-fine}
 use Rattle.sheet.proofs.reading.read_faults.Statement.{statement}
 use Rattle.sheet.proofs.reading.read_faults.Tie as tie
 
 abbrev Inv-loop : tie.InvT-loop
-Inv-loop faults used at₀ named₀ at named = (named ≤ 512) × ((rows : List Cable) → Marks used rows → (before : List Socket) × Through fault FaultForm faultAt (faultRule rows) faults 0 at named before)
+Inv-loop faults used at₀ named₀ at named = (named ≤ 512) × ((rows : List Cable) → Marks used rows →
+    (before : List Socket) × Through fault FaultForm faultAt (faultRule rows) faults 0 at named before)
 
 abbrev μ-loop : tie.MeasureT-loop
 μ-loop faults used at₀ named₀ at named = 512 - named
@@ -37,7 +39,8 @@ enum-told c = search needs
 returns : tie.Need-returns Inv-loop μ-loop
 unfolding faultReading
 returns c = λ rows marks.
-    through-ended _ _ _ _ _ _ (c .before .before .before .loop .inv .1 rows marks .1) (sym (c .before .before .record-at .ensures) ∙ c .enum-told .given .1)
+    through-ended _ _ _ _ _ _ (c .before .before .before .loop .inv .1 rows marks .1) (sym
+    (c .before .before .record-at .ensures) ∙ c .enum-told .given .1)
 
 enum-told-2 : tie.Need-enum-told-2 Inv-loop μ-loop
 enum-told-2 c = search needs
@@ -45,7 +48,8 @@ enum-told-2 c = search needs
 returns-2 : tie.Need-returns-2 Inv-loop μ-loop
 unfolding faultReading
 returns-2 c = λ rows marks.
-    sym (ap toldOf (through-kind _ _ _ _ _ _ (c .before .before .before .loop .inv .1 rows marks .1) (sym (c .before .before .record-at .ensures) ∙ c .enum-told2 .given .1)))
+    sym (ap toldOf (through-kind _ _ _ _ _ _ (c .before .before .before .loop .inv .1 rows marks .1) (sym
+    (c .before .before .record-at .ensures) ∙ c .enum-told2 .given .1)))
 
 enum-told-3 : tie.Need-enum-told-3 Inv-loop μ-loop
 enum-told-3 c = search needs
@@ -57,7 +61,8 @@ sub-t11 c = let e = found-is fault _ _ (sym (c .before .before .record-at .ensur
 returns-3 : tie.Need-returns-3 Inv-loop μ-loop
 unfolding faultReading
 returns-3 c = λ rows marks.
-    sym (ap toldOf (through-cut _ _ _ _ _ _ (c .before .before .before .loop .inv .1 rows marks .1) (sym (c .before .before .record-at .ensures) ∙ c .enum-told3 .given .1)))
+    sym (ap toldOf (through-cut _ _ _ _ _ _ (c .before .before .before .loop .inv .1 rows marks .1) (sym
+    (c .before .before .record-at .ensures) ∙ c .enum-told3 .given .1)))
 
 enum-known-found : tie.Need-enum-known-found Inv-loop μ-loop
 enum-known-found c = search needs
@@ -69,21 +74,25 @@ sub-t14 c = let e = found-is fault _ _ (sym (c .before .before .before .before .
 returns-4 : tie.Need-returns-4 Inv-loop μ-loop
 unfolding faultReading
 returns-4 c = λ rows marks.
-    sym (ap toldOf (through-full _ _ _ _ _ _ (c .before .before .before .before .before .loop .inv .1 rows marks .1) (sym (c .before .before .before .before .record-at .ensures) ∙ c .before .before .found .given .1) (c .if1 .taken)))
+    sym (ap toldOf (through-full _ _ _ _ _ _ (c .before .before .before .before .before .loop .inv .1 rows marks .1) (sym
+    (c .before .before .before .before .record-at .ensures) ∙ c .before .before .found .given .1) (c .if1 .taken)))
 
 is-fault-cabled-requires : tie.Need-is-fault-cabled-requires Inv-loop μ-loop
-is-fault-cabled-requires c κs = let e = found-is fault _ _ (sym (c .before .before .before .before .record-at .ensures) ∙ c .before .before .found .given .1) in
+is-fault-cabled-requires c κs = let e = found-is fault _ _ (sym (c .before .before .before .before .record-at .ensures)
+    ∙ c .before .before .found .given .1) in
     e .inside
 
 sub-t17 : tie.Need-sub-t17 Inv-loop μ-loop
-sub-t17 c = let e = found-is fault _ _ (sym (c .before .before .before .before .before .before .record-at .ensures) ∙ c .before .before .before .before .found .given .1) in
+sub-t17 c = let e = found-is fault _ _ (sym (c .before .before .before .before .before .before .record-at .ensures)
+    ∙ c .before .before .before .before .found .given .1) in
     omega arith
 
 returns-5 : tie.Need-returns-5 Inv-loop μ-loop
 unfolding faultReading faultRule
 returns-5 c = λ rows marks.
     let i = c .before .before .before .before .before .before .before .loop .inv .1 rows marks in
-    let e = sym (c .before .before .before .before .before .before .record-at .ensures) ∙ c .before .before .before .before .found .given .1 in
+    let e = sym (c .before .before .before .before .before .before .record-at .ensures)
+    ∙ c .before .before .before .before .found .given .1 in
     let uncabled = sym (c .before .is-fault-cabled .ensures rows marks) ∙ not-true _ (c .if2 .taken) in
     sym (ap toldOf (through-breaks _ _ _ _ _ _ (i .1) e (lt-of-le-ne (i .1 .room) (c .before .before .if1 .left)) (rw uncabled)))
 
@@ -100,7 +109,8 @@ loop-again c = let i = c .before .before .before .before .before .before .before
     let below = lt-of-le-ne (i .0) (c .before .before .if1 .left) in (
       omega arith,
       λ rows marks.
-          let e = sym (c .before .before .before .before .before .before .record-at .ensures) ∙ c .before .before .before .before .found .given .1 in
+          let e = sym (c .before .before .before .before .before .before .record-at .ensures)
+          ∙ c .before .before .before .before .found .given .1 in
           let cabled = sym (c .before .is-fault-cabled .ensures rows marks) ∙ not-false _ (c .if2 .left) in
           let so-far = i .1 rows marks in
           (_, through-fine _ _ _ _ _ _ (so-far .1) e below (rw cabled)),

@@ -3,7 +3,8 @@
 use lib.Arith.{lt-of-le-ne}
 use Rattle.sheet.proofs.Rows.{row-fine}
 use Rattle.sheet.specs.Sound.{RowInRange}
-use Rattle.sheet.proofs.Through.{right-one, never-right, Through, through-start, through-right, through-ended, through-kind, through-cut, through-full, through-breaks, through-fine}
+use Rattle.sheet.proofs.Through.{right-one, never-right, Through, through-start, through-right, through-ended, through-kind}
+use Rattle.sheet.proofs.Through.{through-cut, through-full, through-breaks, through-fine}
 use Rattle.sheet.proofs.Scan.{found-is}
 use Rattle.sheet.specs.Told.{toldOf}
 use mathlib.Core.Path.{subst, sym, ap, _∙_}
@@ -21,13 +22,19 @@ use Rattle.sheet.proofs.reading.read_rows.Statement.{statement}
 use Rattle.sheet.proofs.reading.read_rows.Tie as tie
 
 abbrev Inv-loop : tie.InvT-loop
-Inv-loop sheet n from used₀ at₀ cables₀ used at cables = (before : List Cable) × Through row SheetForm cableAt (rowRule n) sheet from at cables before × Marks used before
+Inv-loop sheet n from used₀ at₀ cables₀ used at cables = (before : List Cable) × Through row SheetForm cableAt
+    (rowRule n) sheet from at cables before × Marks used before
 
 abbrev μ-loop : tie.MeasureT-loop
 μ-loop sheet n from used₀ at₀ cables₀ used at cables = 512 - cables
 
 loop-holds : tie.Need-loop-holds Inv-loop μ-loop
-loop-holds c = ([], through-start row SheetForm cableAt (rowRule (c .before .args .n)) (now (c .before .args .sheet)) (c .before .args .from), c .before .pre .0)
+loop-holds c = (
+  [],
+  through-start row SheetForm cableAt (rowRule (c .before .args .n)) (now (c .before .args .sheet))
+      (c .before .args .from),
+  c .before .pre .0,
+)
 
 record-at-requires : tie.Need-record-at-requires Inv-loop μ-loop
 record-at-requires c κs = search needs
@@ -69,7 +76,8 @@ sub-t19 c = let e = found-is row _ _ (sym (c .before .before .before .before .re
 
 returns-4 : tie.Need-returns-4 Inv-loop μ-loop
 returns-4 c = let i = c .before .before .before .before .before .loop .inv in
-    let e = through-full _ _ _ _ _ _ (i .1) (sym (c .before .before .before .before .record-at .ensures) ∙ c .before .before .found .given .1) (c .if1 .taken) in
+    let e = through-full _ _ _ _ _ _ (i .1) (sym (c .before .before .before .before .record-at .ensures)
+    ∙ c .before .before .found .given .1) (c .if1 .taken) in
     (sym (ap toldOf e), λ rows r. never-right e r)
 
 cable-at-requires : tie.Need-cable-at-requires Inv-loop μ-loop
@@ -82,14 +90,19 @@ enum-known-verdict : tie.Need-enum-known-verdict Inv-loop μ-loop
 enum-known-verdict c = search needs
 
 sub-t21 : tie.Need-sub-t21 Inv-loop μ-loop
-sub-t21 c = let e = found-is row _ _ (sym (c .before .before .before .before .before .before .before .before .before .before .record-at .ensures) ∙ c .before .before .before .before .before .before .before .before .found .given .1) in
+sub-t21 c = let e = found-is row _ _ (sym
+    (c .before .before .before .before .before .before .before .before .before .before .record-at .ensures)
+    ∙ c .before .before .before .before .before .before .before .before .found .given .1) in
     omega arith
 
 returns-5 : tie.Need-returns-5 Inv-loop μ-loop
 returns-5 c = let i = c .before .before .before .before .before .before .before .before .before .before .before .loop .inv in
     let s = now (c .before .before .before .before .before .before .before .before .before .before .before .before .before .args .sheet) in
     let b = sym (ap (rowRule (c .before .before .before .before .before .before .before .before .before .before .before .before .before .args .n) (i .0)) (c .before .before .before .before .before .cable-at .ensures)) ∙ sym (c .before .before .before .judge-row .ensures (i .0) (i .2)) ∙ c .before .verdict .given .1 in
-    let e = through-breaks _ _ _ _ _ _ (i .1) (sym (c .before .before .before .before .before .before .before .before .before .before .record-at .ensures) ∙ c .before .before .before .before .before .before .before .before .found .given .1) (lt-of-le-ne (i .1 .room) (c .before .before .before .before .before .before .if1 .left)) b in
+    let e = through-breaks _ _ _ _ _ _ (i .1) (sym
+    (c .before .before .before .before .before .before .before .before .before .before .record-at .ensures)
+    ∙ c .before .before .before .before .before .before .before .before .found .given .1) (lt-of-le-ne (i .1 .room)
+    (c .before .before .before .before .before .before .if1 .left)) b in
     (sym (ap toldOf e), λ rows r. never-right e r)
 
 enum-told-4 : tie.Need-enum-told-4 Inv-loop μ-loop
@@ -113,11 +126,15 @@ loop-less c = let i = c .before .before .before .before .before .before .before 
 loop-again : tie.Need-loop-again Inv-loop μ-loop
 loop-again c = let i = c .before .before .before .before .before .before .before .before .before .before .before .before .loop .inv in
     let n = c .before .before .before .before .before .before .before .before .before .before .before .before .before .before .args .n in
-    let e = sym (c .before .before .before .before .before .before .before .before .before .before .before .record-at .ensures) ∙ c .before .before .before .before .before .before .before .before .before .found .given .1 in
-    let fine = sym (ap (rowRule n (i .0)) (c .before .before .before .before .before .before .cable-at .ensures)) ∙ sym (c .before .before .before .before .judge-row .ensures (i .0) (i .2)) ∙ c .before .before .enum-told4 .given .1 in (
+    let e = sym (c .before .before .before .before .before .before .before .before .before .before .before .record-at .ensures)
+    ∙ c .before .before .before .before .before .before .before .before .before .found .given .1 in
+    let fine = sym (ap (rowRule n (i .0)) (c .before .before .before .before .before .before .cable-at .ensures))
+    ∙ sym (c .before .before .before .before .judge-row .ensures (i .0) (i .2)) ∙ c .before .before .enum-told4 .given .1 in (
       i .0 ++ (cableAt (now (c .before .before .before .before .before .before .before .before .before .before .before .before .before .before .args .sheet)) (c .before .before .before .before .before .before .before .before .before .before .before .before .loop .at) ∷ []),
-      through-fine _ _ _ _ _ _ (i .1) e (lt-of-le-ne (i .1 .room) (c .before .before .before .before .before .before .before .if1 .left)) fine,
-      subst (λ k. Marks (c .use-cable .last .0) (i .0 ++ (k ∷ []))) (c .before .before .before .before .before .before .cable-at .ensures) (c .use-cable .ensures (i .0) (i .2)),
+      through-fine _ _ _ _ _ _ (i .1) e (lt-of-le-ne (i .1 .room)
+          (c .before .before .before .before .before .before .before .if1 .left)) fine,
+      subst (λ k. Marks (c .use-cable .last .0) (i .0 ++ (k ∷ [])))
+          (c .before .before .before .before .before .before .cable-at .ensures) (c .use-cable .ensures (i .0) (i .2)),
     )
 
 pub read-rows-spec : {M : Type 1} → statement M

@@ -51,13 +51,23 @@ is-within-requires : tie.Need-is-within-requires
 is-within-requires c κs = search needs
 
 read-rows-requires : tie.Need-read-rows-requires
-read-rows-requires c κs = (c .before .before .before .before .before .before .before .before .before .pre, decides-within 64 (c .before .before .before .byte-at .result) .0 (sym (c .before .before .is-within .ensures) ∙ c .before .if1 .taken) .1)
+read-rows-requires c κs = (
+  c .before .before .before .before .before .before .before .before .before .pre,
+  decides-within 64
+      (c .before .before .before .byte-at .result) .0 (sym (c .before .before .is-within .ensures) ∙ c .before .if1 .taken) .1,
+)
 
 returns : tie.Need-returns
 returns c = let s = now (c .before .before .before .before .before .before .before .before .before .before .args .sheet) in
     let n = c .before .before .before .before .byte-at .ensures in
-    let reading : sheetReading s ≡ scan row SheetForm cableAt (rowRule (c .before .before .before .before .byte-at .result)) 512 s (c .before .before .before .before .before .before .found .given .0 .0) [] =
-    rows-follow s (c .before .before .before .before .before .before .found .given .0 .0) (c .before .before .before .before .byte-at .result) n (sym (c .before .before .before .before .before .before .before .before .record-at .ensures) ∙ c .before .before .before .before .before .before .found .given .1) (sym (c .before .before .before .is-within .ensures) ∙ c .before .before .if1 .taken) in
+    let reading : sheetReading s ≡ scan row SheetForm cableAt (rowRule
+    (c .before .before .before .before .byte-at .result)) 512 s
+    (c .before .before .before .before .before .before .found .given .0 .0) [] =
+    rows-follow s (c .before .before .before .before .before .before .found .given .0 .0)
+    (c .before .before .before .before .byte-at .result) n (sym
+    (c .before .before .before .before .before .before .before .before .record-at .ensures)
+    ∙ c .before .before .before .before .before .before .found .given .1) (sym
+    (c .before .before .before .is-within .ensures) ∙ c .before .before .if1 .taken) in
     (c .read-rows .ensures .0 ∙ ap toldOf (sym reading), λ rows r. c .read-rows .ensures .1 rows (sym reading ∙ r))
 
 returns-2 : tie.Need-returns-2
@@ -77,7 +87,9 @@ returns-4 c = let e = sym (c .before .before .record-at .ensures) ∙ c .enum-to
 
 returns-5 : tie.Need-returns-5
 returns-5 c = let s = now (c .before .before .before .before .before .before .before .before .args .sheet) in
-    let e = count-wrong s (c .before .before .before .before .found .given .0 .0) (c .before .before .byte-at .result) (c .before .before .byte-at .ensures) (sym (c .before .before .before .before .before .before .record-at .ensures) ∙ c .before .before .before .before .found .given .1) (sym (c .before .is-within .ensures) ∙ c .if1 .left) in
+    let e = count-wrong s (c .before .before .before .before .found .given .0 .0) (c .before .before .byte-at .result)
+    (c .before .before .byte-at .ensures) (sym (c .before .before .before .before .before .before .record-at .ensures)
+    ∙ c .before .before .before .before .found .given .1) (sym (c .before .is-within .ensures) ∙ c .if1 .left) in
     (sym (ap toldOf e), λ rows r. never-right e r)
 
 pub read-sheet-spec : {M : Type 1} → statement M

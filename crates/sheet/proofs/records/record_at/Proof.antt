@@ -22,7 +22,10 @@ form-of-requires c κs = search needs
 
 returns-2 : tie.Need-returns-2
 returns-2 c = let a = c .before .before .before .before .before .before .before .args in
-    sym (record-kind (a .place) (now (a .bytes)) (a .at) (record { inside = c .before .before .before .before .before .if1 .left; stands-not = λ e. c .if2 .taken (ap (λ f. f .place .0) (c .before .before .before .form-of .ensures) ∙ e) }))
+    sym (record-kind (a .place) (now (a .bytes)) (a .at) (record {
+      inside = c .before .before .before .before .before .if1 .left;
+      stands-not = λ e. c .if2 .taken (ap (λ f. f .place .0) (c .before .before .before .form-of .ensures) ∙ e);
+    }))
 
 sub-if3 : tie.Need-sub-if3
 sub-if3 c = search needs
@@ -39,20 +42,33 @@ add-t14 c = search needs
 returns-3 : tie.Need-returns-3
 returns-3 c = let a = c .before .before .before .before .before .before .before .before .args in
     let s = now (a .bytes) in
-    let body : c .before .before .before .before .form-of .result .body ≡ formAt s (a .at) .body = ap (λ f. f .body) (c .before .before .before .before .form-of .ensures) in
+    let body : c .before .before .before .before .form-of .result .body ≡ formAt s (a .at) .body = ap (λ f. f .body)
+    (c .before .before .before .before .form-of .ensures) in
     let inside : a .at < length s = c .before .before .before .before .before .before .if1 .left in
     let fits : c .before .before .before .before .form-of .result .body ≤ length s - a .at - 1 = c .if3 .taken in
     sym (record-whole (a .place) s (a .at)
-    (record { inside = inside; stands = ap (λ f. f .place .0) (sym (c .before .before .before .before .form-of .ensures)) ∙ c .before .if2 .left; next-is = ap (λ b. a .at + 1 + b) body; fits = omega arith }))
+    (record {
+      inside = inside;
+      stands = ap (λ f. f .place .0) (sym (c .before .before .before .before .form-of .ensures))
+          ∙ c .before .if2 .left;
+      next-is = ap (λ b. a .at + 1 + b) body;
+      fits = omega arith;
+    }))
 
 returns-4 : tie.Need-returns-4
 returns-4 c = let a = c .before .before .before .before .before .before .before .before .args in
     let s = now (a .bytes) in
-    let body : c .before .before .before .before .form-of .result .body ≡ formAt s (a .at) .body = ap (λ f. f .body) (c .before .before .before .before .form-of .ensures) in
+    let body : c .before .before .before .before .form-of .result .body ≡ formAt s (a .at) .body = ap (λ f. f .body)
+    (c .before .before .before .before .form-of .ensures) in
     let inside : a .at < length s = c .before .before .before .before .before .before .if1 .left in
     let lacks : length s - a .at - 1 < c .before .before .before .before .form-of .result .body = c .if3 .left in
     sym (record-cut (a .place) s (a .at)
-    (record { inside = inside; stands = ap (λ f. f .place .0) (sym (c .before .before .before .before .form-of .ensures)) ∙ c .before .if2 .left; short = omega arith }))
+    (record {
+      inside = inside;
+      stands = ap (λ f. f .place .0) (sym (c .before .before .before .before .form-of .ensures))
+          ∙ c .before .if2 .left;
+      short = omega arith;
+    }))
 
 pub record-at-spec : {M : Type 1} → statement M
 record-at-spec =

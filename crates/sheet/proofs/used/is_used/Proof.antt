@@ -36,11 +36,19 @@ shr-result c = let p = c .before .before .before .before .before .args .p in
 
 returns : tie.Need-returns
 unfolding marked
-returns c = rw (sym (c .before .before .before .before .is-within .ensures) ∙ c .before .before .before .if1 .taken, sym (c .before .before .is-within2 .ensures) ∙ c .before .if2 .taken)
+returns c = rw (
+  sym (c .before .before .before .before .is-within .ensures)
+      ∙ c .before .before .before .if1 .taken,
+  sym (c .before .before .is-within2 .ensures) ∙ c .before .if2 .taken,
+)
 
 returns-2 : tie.Need-returns-2
 unfolding marked
-returns-2 c = rw (sym (c .before .before .before .is-within .ensures) ∙ c .before .before .if1 .taken, sym (c .before .is-within2 .ensures) ∙ c .if2 .left)
+returns-2 c = rw (
+  sym (c .before .before .before .is-within .ensures)
+      ∙ c .before .before .if1 .taken,
+  sym (c .before .is-within2 .ensures) ∙ c .if2 .left,
+)
 
 returns-3 : tie.Need-returns-3
 unfolding marked

@@ -21,10 +21,14 @@ cast-use-port-4 : tie.Need-cast-use-port-4
 cast-use-port-4 c = search needs
 
 use-port-requires-2 : tie.Need-use-port-requires-2
-use-port-requires-2 c κs = let h = c .before .before .before .before .before .before .before .pre in (c .before .before .before .use-port .ensures .0, h .2 .0, h .2 .1)
+use-port-requires-2 c κs = let h = c .before .before .before .before .before .before .before .pre in
+    (c .before .before .before .use-port .ensures .0, h .2 .0, h .2 .1)
 
 returns : tie.Need-returns
-returns c = λ rows marks. marks-snoc (now (c .before .before .before .before .before .before .before .before .args .used)) (c .before .before .before .before .use-port .last .0) (c .use-port2 .last .0) rows (c .before .before .before .before .before .before .before .before .args .c) (c .use-port2 .ensures .0) (c .before .before .before .before .use-port .ensures .1) (c .use-port2 .ensures .1) marks
+returns c = λ rows marks. marks-snoc (now (c .before .before .before .before .before .before .before .before .args .used))
+    (c .before .before .before .before .use-port .last .0) (c .use-port2 .last .0) rows
+    (c .before .before .before .before .before .before .before .before .args .c) (c .use-port2 .ensures .0)
+    (c .before .before .before .before .use-port .ensures .1) (c .use-port2 .ensures .1) marks
 
 pub use-cable-spec : {M : Type 1} → statement M
 use-cable-spec =

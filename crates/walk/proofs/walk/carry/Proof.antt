@@ -6,7 +6,18 @@ use lib.ListN.{length, length-set}
 use denote.Ref.{now}
 use borrow.Author.Needs.{needs}
 use Rattle.sheet.specs.Cables.{rowsOf}
-use Rattle.walk.proofs.Carrying.{Carrying, carrying-starts, switch-small, ready, tag-size, trace-size, walk-ends, HopRoom, hop-room, carrying-on}
+use Rattle.walk.proofs.Carrying.{
+  Carrying,
+  carrying-starts,
+  switch-small,
+  ready,
+  tag-size,
+  trace-size,
+  walk-ends,
+  HopRoom,
+  hop-room,
+  carrying-on,
+}
 use Rattle.walk.proofs.walk.carry.Statement.{statement}
 use Rattle.walk.proofs.walk.carry.Tie as tie
 use Rattle.walk.proofs.walk.carry.Reads as reads

@@ -2,7 +2,16 @@
 use native.Mathlib.Omega.{arith}
 use denote.Ref.{now}
 use borrow.Author.Needs.{needs}
-use Rattle.walk.proofs.Answering.{lists-turn-away, switches-turn-away, tag-turn-away, trace-turn-away, few, tag-fits, ready-to-carry, carried-through}
+use Rattle.walk.proofs.Answering.{
+  lists-turn-away,
+  switches-turn-away,
+  tag-turn-away,
+  trace-turn-away,
+  few,
+  tag-fits,
+  ready-to-carry,
+  carried-through,
+}
 use Rattle.walk.proofs.walk.walk.Statement.{statement}
 use Rattle.walk.proofs.walk.walk.Tie as tie
 
