@@ -1,0 +1,4 @@
+// detours SHEET FAULTS ASKS: a line for each ask.
+fn main() {
+    desk::run(1);
+}
