@@ -162,10 +162,15 @@ fn answer_file(first: usize, file: i32)
     );
 }
 
+// No program is given so many arguments. The bound keeps the numbers of the next two from wrapping.
+const MOST_ARGUMENTS: usize = 1000;
+
 // The program on three arguments, the first of which is given: sheet, fault list, asks. Arguments after them are not looked at.
-pub fn run(first: usize)
-    requires { ⌜ first ≤ 1000 ⌝ }
-{
+pub fn run(first: usize) {
+    if MOST_ARGUMENTS < first {
+        print_missing();
+        return;
+    }
     let file = open(first + 2);
     answer_file(first, file);
     libc::close(file);
