@@ -12,6 +12,8 @@ ghost use Rattle.sheet.specs.declared.cables.Cable.{Cable as Row};
 ghost use Rattle.sheet.specs.declared.rules.Rule.the-variants.{SheetForm};
 use crate::cables::Cable;
 use crate::cables::cable_at;
+use crate::numbers::Port;
+use crate::numbers::Switch;
 use crate::ranges::are_within;
 use crate::ranges::is_within;
 use crate::records::FAULT;
@@ -57,8 +59,8 @@ fn is_fault_cabled(faults: &[u8], at: usize, used: &[u64; 64]) -> bool
     ensures { λ r. ⌜ ((rows : List Row) → Marks (now (used .entry)) rows
         → r ≡ cabled rows (getD (now (faults .entry)) (at + 1) 0) (getD (now (faults .entry)) (at + 2) 0)) ⌝ }
 {
-    let v = byte_at(faults, at + 1) as u64;
-    let p = byte_at(faults, at + 2) as u64;
+    let v = Switch(byte_at(faults, at + 1) as u64);
+    let p = Port(byte_at(faults, at + 2) as u64);
     is_used(used, v, p)
 }
 

@@ -1,6 +1,6 @@
 -- `is_fault_cabled` looks a fault's two bytes up in the table of used ports, which marks just the rows' ports.
-use Rattle.sheet.specs.Cables.{cabled}
 use mathlib.Core.Path.{ap₂, _∙_}
+use Rattle.sheet.specs.Cables.{cabled}
 use borrow.Author.Needs.{needs}
 use Rattle.sheet.proofs.reading.is_fault_cabled.Statement.{statement}
 use Rattle.sheet.proofs.reading.is_fault_cabled.Tie as tie
@@ -11,8 +11,8 @@ add-byte-at c = search needs
 byte-at-requires : tie.Need-byte-at-requires
 byte-at-requires c κs = search needs
 
-cast-v : tie.Need-cast-v
-cast-v c = search needs
+cast-t8 : tie.Need-cast-t8
+cast-t8 c = search needs
 
 add-byte-at-2 : tie.Need-add-byte-at-2
 add-byte-at-2 c = search needs
@@ -20,8 +20,8 @@ add-byte-at-2 c = search needs
 byte-at-requires-2 : tie.Need-byte-at-requires-2
 byte-at-requires-2 c κs = search needs
 
-cast-p : tie.Need-cast-p
-cast-p c = search needs
+cast-t8-2 : tie.Need-cast-t8-2
+cast-t8-2 c = search needs
 
 is-used-requires : tie.Need-is-used-requires
 is-used-requires c κs = search needs
@@ -37,9 +37,9 @@ is-fault-cabled-spec =
     (tie.spec
     add-byte-at
     byte-at-requires
-    cast-v
+    cast-t8
     add-byte-at-2
     byte-at-requires-2
-    cast-p
+    cast-t8-2
     is-used-requires
     returns)

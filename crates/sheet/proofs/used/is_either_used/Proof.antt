@@ -4,11 +4,11 @@ use borrow.Author.Needs.{needs}
 use Rattle.sheet.proofs.used.is_either_used.Statement.{statement}
 use Rattle.sheet.proofs.used.is_either_used.Tie as tie
 
-cast-is-used : tie.Need-cast-is-used
-cast-is-used c = search needs
+cast-t4 : tie.Need-cast-t4
+cast-t4 c = search needs
 
-cast-is-used-2 : tie.Need-cast-is-used-2
-cast-is-used-2 c = search needs
+cast-t6 : tie.Need-cast-t6
+cast-t6 c = search needs
 
 is-used-requires : tie.Need-is-used-requires
 is-used-requires c κs = search needs
@@ -16,11 +16,11 @@ is-used-requires c κs = search needs
 returns : tie.Need-returns
 returns c = rw (sym (c .before .is-used .ensures) ∙ c .if1 .taken)
 
-cast-is-used-3 : tie.Need-cast-is-used-3
-cast-is-used-3 c = search needs
+cast-t4-2 : tie.Need-cast-t4-2
+cast-t4-2 c = search needs
 
-cast-is-used-4 : tie.Need-cast-is-used-4
-cast-is-used-4 c = search needs
+cast-t6-2 : tie.Need-cast-t6-2
+cast-t6-2 c = search needs
 
 is-used-requires-2 : tie.Need-is-used-requires-2
 is-used-requires-2 c κs = search needs
@@ -32,11 +32,11 @@ pub is-either-used-spec : {M : Type 1} → statement M
 is-either-used-spec =
     tie.close
     (tie.spec
-    cast-is-used
-    cast-is-used-2
+    cast-t4
+    cast-t6
     is-used-requires
     returns
-    cast-is-used-3
-    cast-is-used-4
+    cast-t4-2
+    cast-t6-2
     is-used-requires-2
     returns-2)

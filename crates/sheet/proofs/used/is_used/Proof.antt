@@ -15,9 +15,9 @@ is-within-requires-2 : tie.Need-is-within-requires-2
 is-within-requires-2 c κs = search needs
 
 -- the switch is in range, so its number's place is in the table
-in-range : (c : tie.Then2) → Within 64 (c .before .before .before .before .args .v)
+in-range : (c : tie.Then2) → Within 64 (c .before .before .before .before .args .v .0)
 in-range c =
-    decides-within 64 (c .before .before .before .before .args .v) .0
+    decides-within 64 (c .before .before .before .before .args .v .0) .0
     (sym (c .before .before .before .is-within .ensures) ∙ c .before .before .if1 .taken)
 
 sub-i : tie.Need-sub-i
@@ -30,7 +30,7 @@ element-copy-out-word : tie.Need-element-copy-out-word
 element-copy-out-word c = omega (arith, in-range c)
 
 shr-result : tie.Need-shr-result
-shr-result c = let p = c .before .before .before .before .before .args .p in
+shr-result c = let p = c .before .before .before .before .before .args .p .0 in
     let h : Within 48 p = decides-within 48 p .0 (sym (c .before .before .is-within2 .ensures) ∙ c .before .if2 .taken) in
     omega arith
 

@@ -1,8 +1,8 @@
 -- `use_port` sets one bit of one number, which marks that port and no other.
-use borrow.Author.Needs.{needs}
 use lib.ListN.{length-set}
 use Rattle.sheet.proofs.Marking.{mark-port}
 use denote.Ref.{now}
+use borrow.Author.Needs.{needs}
 use Rattle.sheet.proofs.used.use_port.Statement.{statement}
 use Rattle.sheet.proofs.used.use_port.Tie as tie
 
@@ -25,9 +25,9 @@ element-write-used : tie.Need-element-write-used
 element-write-used c = search needs
 
 returns : tie.Need-returns
-returns c = let a = c .before .args in
-    let h = c .before .pre in
-    (simp length-set (h .0), mark-port (now (a .used)) (a .v) (a .p) (h .0) (h .1) (h .2))
+returns c = let a = c .before .before .before .args in
+    let h = c .before .before .before .pre in
+    (simp length-set (h .0), mark-port (now (a .used)) (a .v .0) (a .p .0) (h .0) (h .1) (h .2))
 
 pub use-port-spec : {M : Type 1} → statement M
 use-port-spec =
