@@ -8,8 +8,6 @@ use libc::STDOUT_FILENO;
 use lines::asks::{Ask, next_ask};
 use lines::lines::write_line;
 use sheet::numbers::Switch;
-use sheet::records::{ASK_SIZE, MOST_RECORDS, list_buffer, sheet_buffer};
-use switch::tag::LONGEST_TAG;
 
 // How many bytes were read, or that a read failed.
 #[derive(Drop)]
@@ -78,11 +76,11 @@ fn next_piece(file: i32, window: &mut [u8]) -> usize
     }
 }
 
-// The line for an ask. The buffers are as large as any accepted sheet and any line can ask for: the longest tag, and 4 bytes of trace for
-// each cable of the longest sheet.
+// The line for an ask. The buffers are as large as any accepted sheet and any line can ask for: 2 bytes of tag for each of 64 switches,
+// 4 bytes of trace for each of 512 cables.
 fn print_line(sheet: &[u8], faults: &[u8], source: Switch, destination: Switch) {
-    let mut tag = [0u8; LONGEST_TAG];
-    let mut trace = [0u8; 4 * MOST_RECORDS];
+    let mut tag = [0u8; 128];
+    let mut trace = [0u8; 2048];
     let mut line = [0u8; 8265];
     let n = write_line(
         sheet,
@@ -134,13 +132,13 @@ fn print_missing() {
 
 // Sheet and fault list, then the asks of a file. All three are read before anything is printed, the asks as far as the window goes; what
 // is not named, not opened or not read is missing. One byte more than the longest accepted sheet and fault list is enough: what follows
-// changes nothing (prefix-walks of `lines`). The window holds one ask, and shows it as the file does (window-asks).
+// changes nothing (prefix-walks of `lines`). The window holds one ask, which has three bytes, and shows it as the file does (window-asks).
 fn answer_file(first: usize, file: i32)
     requires { first ≤ 1000 }
 {
-    let mut sheet = sheet_buffer();
-    let mut faults = list_buffer();
-    let mut window = [0u8; ASK_SIZE];
+    let mut sheet = [0u8; 3587];
+    let mut faults = [0u8; 1537];
+    let mut window = [0u8; 3];
     let sheet_read = read_file(first, &mut sheet);
     let faults_read = read_file(first + 1, &mut faults);
     let asks_read = fill(file, &mut window);

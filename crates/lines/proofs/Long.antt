@@ -11,11 +11,9 @@ use lib.Seq.{get_or-take, length-take-le}
 use lib.Dec.{leb}
 use borrow.Author.Tests.{leb-true, leb-false}
 use Rattle.sheet.specs.Records.{form_of}
-use Rattle.sheet.specs.Sizes.{longest}
 use Rattle.sheet.specs.Standing.{form_at, Whole, OtherKind, Cut}
 use Rattle.sheet.specs.Exactly.{Right, none, more, AllRight, FormWrong, other_kind, cut_short, one_too_many, RuleBroken, broken}
 use Rattle.sheet.specs.declared.records.Place.{Place}
-use Rattle.sheet.proofs.Sizing.{whole_fits}
 use Rattle.sheet.proofs.Right.{Listing, right_few}
 
 module _ (place : Place) (s : List ℕ) (m : ℕ) (long : m ≤ length s) where
@@ -43,32 +41,30 @@ module _ (place : Place) (s : List ℕ) (m : ℕ) (long : m ≤ length s) where
   cut_there {at} h stands short =
       record { inside = omega (arith, size_is); stands = rw (same_form at h) stands; short = rw (same_form at h, size_is) short }
 
-module _ {A : Type 0} (listing : Listing A) (start : ℕ) (somewhere : 1 ≤ listing.place.0) where
+module _ {A : Type 0} (listing : Listing A) (start size : ℕ)
+    (sized : (s : List ℕ) (at next : ℕ) → Whole listing.place s at next → next ≡ at + size) where
   open listing use {place, read, Obeys}
 
-  abbrev size : ℕ
-  size = longest place
-
-  -- how far the records can reach
-  right_at : (s : List ℕ) {at : ℕ} {before : List A} → Right place read Obeys s start at before → at ≤ start + size * length before
+  -- where the records end so far
+  right_at : (s : List ℕ) {at : ℕ} {before : List A} → Right place read Obeys s start at before → at ≡ start + size * length before
   right_at s none = omega arith
   right_at s (more {at = at} {next = next} {before = before} chain few whole obeys) =
       let longer : length (before ++ (read s at ∷ [])) ≡ length before + 1 = length-append before (read s at ∷ []) in
       omega (
         arith,
-        whole_fits place somewhere whole,
+        sized s at next whole,
         right_at s chain,
         ap (λ (k : ℕ). size * k) longer,
         mul-add size (length before) 1,
       )
 
   -- an accepted list is no longer than 512 records
-  pub right_short : (s : List ℕ) {records : List A} → AllRight place read Obeys s start records → length s ≤ start + longest listing.place * 512
+  pub right_short : (s : List ℕ) {records : List A} → AllRight place read Obeys s start records → length s ≤ start + size * 512
   right_short s {records} all =
       omega (arith, right_at s all.right, mul-le-mul_left size (right_few listing s start all.right), all.ended)
 
-  module _ (s : List ℕ) (m : ℕ) (long : m ≤ length s) (reach : start + longest listing.place * 512 < m)
-      (reads : (at : ℕ) → at + longest listing.place ≤ m → read (take m s) at ≡ read s at) where
+  module _ (s : List ℕ) (m : ℕ) (long : m ≤ length s) (reach : start + size * 512 < m)
+      (reads : (at : ℕ) → at + size ≤ m → read (take m s) at ≡ read s at) where
     -- a record with room after those before it lies before the cut
     room : {at : ℕ} {before : List A} → Right place read Obeys s start at before → length before < 512 → at + size ≤ m
     room {at} {before} chain few =
@@ -79,7 +75,7 @@ module _ {A : Type 0} (listing : Listing A) (start : ℕ) (somewhere : 1 ≤ lis
     begins chain = omega (arith, right_at s chain, mul-le-mul_left size (right_few listing s start chain))
 
     there : {at next : ℕ} → at + size ≤ m → Whole place s at next → Whole place (take m s) at next
-    there {at} {next} h whole = whole_there place s m long (omega (arith, whole_fits place somewhere whole)) whole
+    there {at} {next} h whole = whole_there place s m long (omega (arith, sized s at next whole)) whole
 
     right_there : {at : ℕ} {before : List A} → Right place read Obeys s start at before → Right place read Obeys (take m s) start at before
     right_there none = none

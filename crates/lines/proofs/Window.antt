@@ -1,4 +1,5 @@
--- A window as long as an ask shows the ask at its front as all the bytes do. So the asks may be read so many bytes at a time.
+-- A window of three bytes shows the ask at its front as all the bytes do, since an ask has three bytes. So the asks may be read three
+-- bytes at a time.
 use Prim.Native.Nat.{ℕ, ◌+◌, ◌-◌, ◌≤◌, ◌<◌, min}
 use native.Mathlib.Nat.{add-zero}
 use mathlib.Core.Path.{◌≡◌, refl, sym, ap, ◌∙◌}
@@ -7,7 +8,6 @@ use native.Mathlib.Omega.{arith}
 use lib.ListN.{length, get_or, take, drop, length-take, length-drop}
 use lib.Seq.{get_or-take, get_or-drop}
 use Rattle.sheet.specs.Records.{form_of, record_at, ask}
-use Rattle.sheet.specs.Sizes.{longest}
 use Rattle.sheet.specs.Standing.{form_at, Whole, OtherKind, Cut}
 use Rattle.sheet.specs.declared.records.Found.{Found}
 use Rattle.sheet.specs.declared.records.Found.TheVariants.{Record, WrongKind, CutShort, Ended}
@@ -25,20 +25,19 @@ later at Ask.Ended = Ask.Ended
 
 module _ (s : List ℕ) (at : ℕ) where
   abbrev window : List ℕ
-  window = take (longest ask) (drop at s)
+  window = take 3 (drop at s)
 
-  size : length window ≡ min (longest ask) (length s - at)
-  size = length-take (longest ask) (drop at s) ∙ ap (min (longest ask)) (length-drop at s)
+  size : length window ≡ min 3 (length s - at)
+  size = length-take 3 (drop at s) ∙ ap (min 3) (length-drop at s)
 
-  same_byte : (i : ℕ) → i < longest ask → get_or window i 0 ≡ get_or s (at + i) 0
-  same_byte i h = get_or-take (longest ask) (drop at s) i 0 h ∙ get_or-drop at s i 0
+  same_byte : (i : ℕ) → i < 3 → get_or window i 0 ≡ get_or s (at + i) 0
+  same_byte i h = get_or-take 3 (drop at s) i 0 h ∙ get_or-drop at s i 0
 
   same_form : form_at window 0 ≡ form_at s at
-  unfolding longest
   same_form = ap form_of (same_byte 0 (omega arith) ∙ ap (λ (k : ℕ). get_or s k 0) (add-zero at))
 
   pub window_asks : ask_at s at ≡ later at (ask_at window 0)
-  unfolding form_of longest
+  unfolding form_of
   window_asks = by (record_at ask s at) refl
     where
       by : (found : Found) → record_at ask s at ≡ found → ask_at s at ≡ later at (ask_at window 0)

@@ -6,18 +6,8 @@ use mathlib.Core.Logic.{◌⊎◌, inl, inr, ◌↔◌}
 use native.Mathlib.Omega.{arith}
 use lib.ListN.{length, get_or, drop}
 use Rattle.sheet.specs.Lists.{◌∈◌, Once, All}
-use Rattle.sheet.specs.Records.{form, form_of}
+use Rattle.sheet.specs.Records.{form_of}
 use Rattle.sheet.specs.Standing.{Whole}
-
--- kind 0, and every kind past the table, has the table's first form
-pub kind_none : (k : ℕ) → (k ≡ 1 → ⊥) → (k ≡ 2 → ⊥) → (k ≡ 3 → ⊥) → (k ≡ 4 → ⊥) → form 0 0 ≡ form_of k
-unfolding form_of
-kind_none zero a b c d = refl
-kind_none (suc zero) a b c d = absurd (a refl)
-kind_none (suc (suc zero)) a b c d = absurd (b refl)
-kind_none (suc (suc (suc zero))) a b c d = absurd (c refl)
-kind_none (suc (suc (suc (suc zero)))) a b c d = absurd (d refl)
-kind_none (suc (suc (suc (suc (suc k))))) a b c d = refl
 
 -- in the table a kind stands at the place of its own number, or nowhere
 stands_kind : (k place : ℕ) → (form_of k).place.0 ≡ suc place → k ≡ suc place

@@ -19,7 +19,6 @@ use Rattle.sheet.specs.Order.{seen_from, sorted, port_order, position_of, cable_
 use Rattle.sheet.specs.Sound.{Within, RowInRange, sockets, Sound, Seen}
 use Rattle.sheet.specs.Rising.{PortOrder}
 use Rattle.sheet.specs.declared.cables.Cable.{Cable}
-use Rattle.sheet.specs.declared.faults.Fault.{Fault}
 use Rattle.sheet.proofs.Lists.{both_true, true_both, either_swap, either_assoc, same_test, any_found, found_any, all_at, map_in}
 use Rattle.sheet.proofs.Lists.{once_same, once_finer, once_within, those, those_in, in_those, once_those}
 use Rattle.sheet.proofs.Permuted.{permuted_holds, permuted_once, permuted_map}
@@ -212,8 +211,8 @@ module _ {n : ℕ} {rows : List Cable} (sound : Sound n rows) where
   far_far v c at = position_in (port_order rows c.far.switch) (turned c) (far_in v c at) (ports_once c.far.switch)
 
 -- a fault at either end takes the cable out at both
-pub live_both : (faults : List Fault) (c : Cable) → live faults (turned c) ≡ live faults c
+pub live_both : (faults : List Socket) (c : Cable) → live faults (turned c) ≡ live faults c
 unfolding live
 live_both faults c =
-    ap (λ (f : Fault → Bool). not (any f faults))
+    ap (λ (f : Socket → Bool). not (any f faults))
     (fun_ext λ f. either_swap (is_at f.switch f.port c.far) (is_at f.switch f.port c.near))

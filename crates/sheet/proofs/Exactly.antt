@@ -1,39 +1,24 @@
 -- Each refusal number is given exactly when its statement of the table holds, and a sheet or a list is accepted exactly when all its
 -- records are right: the reading tells which statement holds, each statement fixes the reading, and numbers differ.
 use Prim.Native.Nat.{ℕ}
-use mathlib.Core.Path.{◌≡◌, refl, sym, ◌∙◌, ap}
+use mathlib.Core.Path.{◌≡◌, refl, ◌∙◌, ap}
 use mathlib.Core.List.{List}
 use mathlib.Core.Logic.Iff
-use mathlib.Core.Logic.{inl, inr, ◌↔◌}
+use mathlib.Core.Logic.{◌↔◌}
 use native.Mathlib.Omega.{arith}
 use lib.ListN.{length}
-use Rattle.sheet.specs.Lists.{◌∈◌}
 use Rattle.sheet.specs.Records.{Reading, right, wrong}
-use Rattle.sheet.specs.Cables.{sheet_reading, switches_of}
+use Rattle.sheet.specs.Cables.{Socket, sheet_reading, switches_of}
 use Rattle.sheet.specs.Faults.{fault_reading}
-use Rattle.sheet.specs.Refusals.{number_of, list_numbers, accepted, refused, sheet_answer_of, sheet_answer, list_answer_of, fault_answer_of, list_answer}
+use Rattle.sheet.specs.Refusals.{number_of, accepted, refused, sheet_answer_of, sheet_answer, list_answer_of, fault_answer_of, list_answer}
 use Rattle.sheet.specs.Accepted.{AcceptedSheet, AcceptedWith}
 use Rattle.sheet.specs.Exactly.{Refusal1, Refusal2, Refusal3, Refusal4, Refusal5, SheetRefusal, by_form, by_count, by_row}
 use Rattle.sheet.specs.Exactly.{ListRefusal, by_fault_form, by_fault, BothAccepted, EitherRefused, of_sheet, of_list}
 use Rattle.sheet.specs.declared.cables.Cable.{Cable}
-use Rattle.sheet.specs.declared.faults.Fault.{Fault}
-use Rattle.sheet.specs.declared.rules.Rule.{Rule}
-use Rattle.sheet.specs.declared.rules.Rule.TheVariants.{SheetForm, SwitchCount, SwitchRange, PortRange, SameSwitch, PortUsed}
-use Rattle.sheet.specs.declared.rules.Rule.TheVariants.{FaultForm, FaultUncabled}
 use Rattle.sheet.proofs.Right.{WrongWith}
 use Rattle.sheet.proofs.FaultList.{fault_tells, fault_right, fault_refused}
 use Rattle.sheet.proofs.Accepted.{accepted_is, accepted_of}
 use Rattle.sheet.proofs.Sheet.{sheet_tells, sheet_refused}
-
-rule_number : (rule : Rule) → number_of rule ∈ list_numbers
-rule_number SheetForm = inl refl
-rule_number SwitchCount = inr (inl refl)
-rule_number SwitchRange = inr (inr (inl refl))
-rule_number PortRange = inr (inr (inr (inl refl)))
-rule_number SameSwitch = inr (inr (inr (inr (inl refl))))
-rule_number PortUsed = inr (inr (inr (inr (inr (inl refl)))))
-rule_number FaultForm = inr (inr (inr (inr (inr (inr (inl refl))))))
-rule_number FaultUncabled = inr (inr (inr (inr (inr (inr (inr (inl refl)))))))
 
 module _ (s : List ℕ) where
   answer_of_lem : {reading : Reading Cable} → sheet_reading s ≡ reading → sheet_answer s ≡ sheet_answer_of (switches_of s) reading
@@ -97,7 +82,7 @@ module _ (s f : List ℕ) where
 
   -- after an accepted sheet, the list does
   module _ (rows : List Cable) (sheet : AcceptedSheet s rows) where
-    list_of : {reading : Reading Fault} → fault_reading rows f ≡ reading
+    list_of : {reading : Reading Socket} → fault_reading rows f ≡ reading
         → list_answer s f ≡ fault_answer_of (accepted (switches_of s) (length rows)) reading
     list_of e = list_of_sheet (accepted_of s rows sheet) ∙ ap (fault_answer_of (accepted (switches_of s) (length rows))) e
 
@@ -107,7 +92,7 @@ module _ (s f : List ℕ) where
     pub list_exactly : (number : ℕ) → (list_answer s f ≡ refused number) ↔ ListRefusal rows f number
     list_exactly number = (λ e. by-reading e (fault_reading rows f) refl, λ h. refused_of_list (fault_refused rows f h))
       where
-        by-reading : list_answer s f ≡ refused number → (reading : Reading Fault) → fault_reading rows f ≡ reading
+        by-reading : list_answer s f ≡ refused number → (reading : Reading Socket) → fault_reading rows f ≡ reading
             → ListRefusal rows f number
         by-reading e (right faults) r = let z : ◌≡◌ {A = ℕ} 0 1 = cc (list_of r) in absurd (omega arith)
         by-reading e (wrong rule start size) r =
@@ -125,22 +110,6 @@ module _ (s f : List ℕ) where
       where
         only-5 : ListRefusal rows f 5 → Refusal5 rows f
         only-5 (by_fault h) = h
-
-  -- whatever refuses has one of the lists' numbers
-  pub lists_number : {number : ℕ} → list_answer s f ≡ refused number → number ∈ list_numbers
-  lists_number {number} e = by-sheet e (sheet_reading s) refl
-    where
-      ruled : (rule : Rule) → refused (number_of rule) ≡ refused number → number ∈ list_numbers
-      ruled rule same = let e : number_of rule ≡ number = cc in rw e at (rule_number rule)
-
-      by-sheet : list_answer s f ≡ refused number → (reading : Reading Cable) → sheet_reading s ≡ reading → number ∈ list_numbers
-      by-sheet e (right rows) r = by-faults (fault_reading rows f) (sym (list_of_sheet r) ∙ e)
-        where
-          by-faults : (reading : Reading Fault) → fault_answer_of (accepted (switches_of s) (length rows)) reading ≡ refused number
-              → number ∈ list_numbers
-          by-faults (right faults) same = let z : ◌≡◌ {A = ℕ} 0 1 = cc in absurd (omega arith)
-          by-faults (wrong rule start size) same = ruled rule same
-      by-sheet e (wrong rule start size) r = ruled rule (sym (list_of_sheet r) ∙ e)
 
   -- both lists, whatever they are
   pub either_refused : (number : ℕ) → (list_answer s f ≡ refused number) ↔ EitherRefused s f number
@@ -161,7 +130,7 @@ module _ (s f : List ℕ) where
   )
     where
       by-faults : (rows : List Cable) (sheet : AcceptedSheet s rows) → list_answer s f ≡ accepted n cables
-          → (reading : Reading Fault) → fault_reading rows f ≡ reading → BothAccepted s f n cables
+          → (reading : Reading Socket) → fault_reading rows f ≡ reading → BothAccepted s f n cables
       by-faults rows sheet e (right faults) r =
           record {
             sheet = record { rows = rows; sheet = sheet; switches = cc (list_of rows sheet r); counted = cc (list_of rows sheet r) };

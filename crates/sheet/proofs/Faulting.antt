@@ -6,11 +6,16 @@ use mathlib.Core.Bool.{Bool, true, false}
 use native.Mathlib.Omega.{arith}
 use native.Mathlib.Numerals.{sub-one}
 use Rattle.sheet.specs.Records.{record_at, wholes, fault}
-use Rattle.sheet.specs.Faults.{fault_at, names, faults_of, live}
+use Rattle.sheet.specs.Cables.{carries}
+use Rattle.sheet.specs.Faults.{fault_at, faults_of, live}
 use Rattle.sheet.specs.declared.cables.Cable.{Cable}
 use Rattle.sheet.specs.declared.records.Found.{Found}
 use Rattle.sheet.specs.declared.records.Found.TheVariants.{Record}
 use Rattle.sheet.proofs.Scan.{Stops, wholes_none, wholes_next, wholes_stop}
+
+-- the fault at a position names an end of the cable
+abbrev pub names : List ℕ → ℕ → Cable → Bool
+names s at c = carries (fault_at s at).switch (fault_at s at).port c
 
 -- the answer is that of the faults from a position on, at most `room`
 pub record Asks (s : List ℕ) (c : Cable) (room at : ℕ) : Type 0 where
@@ -33,14 +38,14 @@ module _ {s : List ℕ} {c : Cable} where
   live_full {room = zero} {at} asks none = none_left asks (wholes_none fault fault_at s at)
   live_full {room = suc room} asks none = absurd (omega arith)
 
-  pub live_named : {room at next : ℕ} → Asks s c room at → 0 < room → record_at fault s at ≡ Record next → names (fault_at s at) c ≡ true
+  pub live_named : {room at next : ℕ} → Asks s c room at → 0 < room → record_at fault s at ≡ Record next → names s at c ≡ true
       → false ≡ live (faults_of s) c
   unfolding live
   live_named {room = zero} asks some e named = absurd (omega arith)
   live_named {room = suc room} {at} {next} asks some e named =
       sym (asks.same ∙ ap (λ faults. live faults c) (wholes_next fault fault_at s room at next e) ∙ rw named)
 
-  pub asks_next : {room at next : ℕ} → Asks s c room at → 0 < room → record_at fault s at ≡ Record next → names (fault_at s at) c ≡ false
+  pub asks_next : {room at next : ℕ} → Asks s c room at → 0 < room → record_at fault s at ≡ Record next → names s at c ≡ false
       → Asks s c (room - 1) next
   unfolding live
   asks_next {room = zero} asks some e named = absurd (omega arith)

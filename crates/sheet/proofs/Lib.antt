@@ -2,7 +2,6 @@ pub mod Lists
 pub mod Permuted
 pub mod Tests
 pub mod Bytes
-pub mod Sizing
 pub mod Ends
 pub mod Scan
 pub mod Right
@@ -11,7 +10,6 @@ pub mod Sheet
 pub mod FaultList
 pub mod Accepted
 pub mod Exactly
-pub mod FirstBroken
 pub mod Through
 pub mod Telling
 pub mod Parts

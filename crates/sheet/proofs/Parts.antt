@@ -5,11 +5,10 @@ use mathlib.Core.List.{List}
 use native.Mathlib.Omega.{arith}
 use lib.ListN.{length}
 use Rattle.sheet.specs.Records.{Reading, right, wrong}
-use Rattle.sheet.specs.Cables.{sheet_reading}
+use Rattle.sheet.specs.Cables.{Socket, sheet_reading}
 use Rattle.sheet.specs.Faults.{fault_reading}
 use Rattle.sheet.specs.FaultyRow.{faulty_part, faulty_part_of, fault_part_of}
 use Rattle.sheet.specs.declared.cables.Cable.{Cable}
-use Rattle.sheet.specs.declared.faults.Fault.{Fault}
 use Rattle.sheet.specs.declared.check.Part.{Part}
 use Rattle.sheet.specs.declared.check.Part.TheVariants.{OfSheet, OfFaults}
 use Rattle.sheet.proofs.Sheet.{sheet_inside}
@@ -20,7 +19,7 @@ Inside s f (OfSheet start size) = start + size ≤ length s
 Inside s f (OfFaults start size) = start + size ≤ length f
 
 module _ (s f : List ℕ) where
-  in_faults : (rows : List Cable) (reading : Reading Fault) → fault_reading rows f ≡ reading → Inside s f (fault_part_of reading)
+  in_faults : (rows : List Cable) (reading : Reading Socket) → fault_reading rows f ≡ reading → Inside s f (fault_part_of reading)
   in_faults rows (right faults) e = omega arith
   in_faults rows (wrong rule start size) e = faults_inside rows f e
 

@@ -5,7 +5,7 @@ use mathlib.Core.Path.{◌≡◌, refl, ap, ap₂, subst}
 use mathlib.Core.List.{List, []}
 use Rattle.sheet.specs.Lists.{pick}
 use Rattle.sheet.specs.Records.{right, scan, fault}
-use Rattle.sheet.specs.Cables.{socket_of, cabled, switches_of, sheet_reading, rows_of}
+use Rattle.sheet.specs.Cables.{Socket, socket_of, cabled, switches_of, sheet_reading, rows_of}
 use Rattle.sheet.specs.Faults.{fault_at, fault_rule, fault_reading}
 use Rattle.sheet.specs.Order.{port_order, position_of, cable_of, is_cabled, is_live}
 use Rattle.sheet.specs.Refusals.{accepted, sheet_answer, list_answer, fault_answer_of}
@@ -13,7 +13,6 @@ use Rattle.sheet.specs.Accepted.{AcceptedSheet}
 use Rattle.sheet.specs.Rebuilt.{Rebuilt, sheet_bytes}
 use Rattle.sheet.specs.Cabling.{SameCabling}
 use Rattle.sheet.specs.declared.cables.Cable.{Cable}
-use Rattle.sheet.specs.declared.faults.Fault.{Fault}
 use Rattle.sheet.specs.declared.rules.Rule.TheVariants.{FaultForm, FaultUncabled}
 use Rattle.sheet.specs.declared.rules.Verdict.{Verdict}
 use Rattle.sheet.specs.declared.rules.Verdict.TheVariants.{Fine, Breaks}
@@ -42,9 +41,9 @@ module _ {s : List ℕ} {rows rows' : List Cable} (sheet : AcceptedSheet s rows)
 
   -- the fault list is held to the same ports
   same_list : (f : List ℕ) → fault_reading rows f ≡ fault_reading rows' f
-  unfolding fault_reading fault_rule cabled
+  unfolding fault_reading fault_rule
   same_list f =
-      ap (λ (rule : List Fault → Fault → Verdict). scan fault FaultForm fault_at rule 512 f 0 [])
+      ap (λ (rule : List Socket → Socket → Verdict). scan fault FaultForm fault_at rule 512 f 0 [])
       (λ i before x. pick (rebuilt_cabled rebuilt x.switch x.port i) Fine (Breaks FaultUncabled))
 
   same_order : (v : ℕ) → port_order (rows_of s) v ≡ port_order (rows_of again) v

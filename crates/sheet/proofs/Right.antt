@@ -117,11 +117,11 @@ module _ {A : Type 0} (listing : Listing A) (s : List ℕ) (start : ℕ) where
       no_room = rw many (full (record_whole place s at whole))
 
   pub scan_broken : RuleBroken place read Obeys s start → WrongWith number answered
-  scan_broken (broken {at = at} {next = next} {before = before} chain few whole disobeys) = by-check (check before (read s at)) refl
+  scan_broken (broken {at = at} {next = next} {before = before} chain few whole disobeys) = by_check (check before (read s at)) refl
     where
-      by-check : (verdict : Verdict) → check before (read s at) ≡ verdict → WrongWith number answered
-      by-check Fine c = absurd (disobeys (when_fine (verdict_judges before (read s at) c)))
-      by-check (Breaks rule) c = rw (when_breaks (verdict_judges before (read s at) c)).0 at (refuses chain some-room)
+      by_check : (verdict : Verdict) → check before (read s at) ≡ verdict → WrongWith number answered
+      by_check Fine c = absurd (disobeys (when_fine (verdict_judges before (read s at) c)))
+      by_check (Breaks rule) c = rw (when_breaks (verdict_judges before (read s at) c)).0 at (refuses chain some-room)
         where
           some-room : Scans (512 - length before) at before (wrong rule at (next - at))
           some-room =

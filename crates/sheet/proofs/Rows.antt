@@ -6,23 +6,22 @@ use mathlib.Core.List.{List, [], ◌∷◌}
 use mathlib.Core.Logic.Iff
 use mathlib.Core.Logic.{◌⊎◌, inl, inr, ⊎_elim, ◌↔◌}
 use lib.Dec.{leb, eqb}
-use Rattle.sheet.specs.Lists.{any, ◌∈◌}
+use Rattle.sheet.specs.Lists.{◌∈◌}
 use Rattle.sheet.specs.Records.{row, fault}
 use Rattle.sheet.specs.Cables.{Socket, socket_of, is_at, carries, cabled, within, cable_at, row_rule}
-use Rattle.sheet.specs.Faults.{fault_at, names, fault_rule, Named}
+use Rattle.sheet.specs.Faults.{fault_at, fault_rule}
 use Rattle.sheet.specs.Refusals.{number_of}
 use Rattle.sheet.specs.Sound.{Within, sockets}
 use Rattle.sheet.specs.Accepted.{RowObeys}
 use Rattle.sheet.specs.Exactly.{Names}
 use Rattle.sheet.specs.declared.cables.End.{End}
 use Rattle.sheet.specs.declared.cables.Cable.{Cable}
-use Rattle.sheet.specs.declared.faults.Fault.{Fault}
 use Rattle.sheet.specs.declared.rules.Rule.{Rule}
 use Rattle.sheet.specs.declared.rules.Rule.TheVariants.{SheetForm, SwitchRange, PortRange, SameSwitch, PortUsed, FaultForm}
 use Rattle.sheet.specs.declared.rules.Rule.TheVariants.{FaultUncabled}
 use Rattle.sheet.specs.declared.rules.Verdict.TheVariants.{Fine, Breaks}
 use Rattle.sheet.proofs.Tests.{Decides, true≢false, decides-≤, decides-≡, decides-×, decides-⊎, Judges, obeyed, when_fine}
-use Rattle.sheet.proofs.Tests.{decides_any, when_breaks, fine_when, judges_pass, judges_fail}
+use Rattle.sheet.proofs.Tests.{when_breaks, fine_when, judges_pass, judges_fail}
 use Rattle.sheet.proofs.Right.{Listing}
 
 abbrev socket : ℕ → ℕ → Socket
@@ -92,16 +91,11 @@ module _ (n : ℕ) (before : List Cable) (c : Cable) where
   pub row_breaks : {rule : Rule} → row_rule n before c ≡ Breaks rule → (number_of rule ≡ 3) × (RowObeys n before c → ⊥)
   row_breaks e = when_breaks (subst (Judges 3 (RowObeys n before c)) e row_judged)
 
-pub decides_named : (f : Fault) (c : Cable) → Decides (names f c) (Named f c)
-decides_named f c =
-    decides-⊎ (is_at f.switch f.port c.near) (is_at f.switch f.port c.far)
-    (decides_is_at f.switch f.port c.near) (decides_is_at f.switch f.port c.far)
-
 -- a fault is right exactly if it names a cabled port
-pub fault_judged : (rows : List Cable) (before : List Fault) (f : Fault) → Judges 5 (Names rows before f) (fault_rule rows before f)
+pub fault_judged : (rows : List Cable) (before : List Socket) (f : Socket) → Judges 5 (Names rows before f) (fault_rule rows before f)
 unfolding fault_rule
 fault_judged rows before f =
-    judges_pass (any (names f) rows) Fine FaultUncabled refl (decides_any (names f) (decides_named f) rows) (λ h. h) obeyed
+    judges_pass (cabled rows f.switch f.port) Fine FaultUncabled refl (cabled_socket rows f.switch f.port) (λ h. h) obeyed
 
 -- the two lists that are scanned
 abbrev pub row_listing : ℕ → Listing Cable
@@ -116,7 +110,7 @@ row_listing n =
       judges = row_judged n;
     }
 
-abbrev pub fault_listing : List Cable → Listing Fault
+abbrev pub fault_listing : List Cable → Listing Socket
 fault_listing rows =
     record {
       place = fault;

@@ -139,16 +139,16 @@ module _ {A : Type 0} (place : Place) (broken : Rule) (read : List ℕ → ℕ �
       by-found Ended e = rw (scan_ended zero at before e) (ended e)
   scanned (suc room) at before = by-found (λ next. scanned room next (before ++ (read s at ∷ []))) (record_at place s at) refl
     where
-      by-check : (next : ℕ) → record_at place s at ≡ Record next
+      by_check : (next : ℕ) → record_at place s at ≡ Record next
           → Scanned room next (before ++ (read s at ∷ [])) (from room next (before ++ (read s at ∷ [])))
           → (verdict : Verdict) → check before (read s at) ≡ verdict
           → Scanned (suc room) at before (from (suc room) at before)
-      by-check next e rest Fine c = rw (scan_fine room at next before e c) (fine e c rest)
-      by-check next e rest (Breaks rule) c = rw (scan_breaks room at next before rule e c) (breaks e c)
+      by_check next e rest Fine c = rw (scan_fine room at next before e c) (fine e c rest)
+      by_check next e rest (Breaks rule) c = rw (scan_breaks room at next before rule e c) (breaks e c)
 
       by-found : ((next : ℕ) → Scanned room next (before ++ (read s at ∷ [])) (from room next (before ++ (read s at ∷ []))))
           → (found : Found) → record_at place s at ≡ found → Scanned (suc room) at before (from (suc room) at before)
-      by-found rest (Record next) e = by-check next e (rest next) (check before (read s at)) refl
+      by-found rest (Record next) e = by_check next e (rest next) (check before (read s at)) refl
       by-found rest WrongKind e = rw (scan_kind (suc room) at before e) (kind e)
       by-found rest CutShort e = rw (scan_cut (suc room) at before e) (cut e)
       by-found rest Ended e = rw (scan_ended (suc room) at before e) (ended e)

@@ -1,19 +1,17 @@
 -- Tests that decide statements, put together as their statements are; and verdicts that judge one: nothing wrong exactly if it holds, and
 -- whatever is found wrong has one refusal number.
-use Prim.Native.Nat.{ℕ, ◌≤◌, ◌<◌}
+use Prim.Native.Nat.{ℕ, ◌≤◌}
 use mathlib.Core.Path.{◌≡◌, refl}
-use mathlib.Core.List.{List}
-use mathlib.Core.Logic.{◌⊎◌, inl, inr, ⊎_elim, ◌↔◌}
-use mathlib.Core.Bool.{Bool, true, false, not}
+use mathlib.Core.Logic.{◌⊎◌, inl, inr, ◌↔◌}
+use mathlib.Core.Bool.{Bool, true, false}
 use native.Mathlib.Omega.{arith}
 use lib.Dec.{leb, eqb}
-use borrow.Author.Tests.{leb-true, leb-false, le-leb, lt-leb, eqb-true, eq-eqb}
-use Rattle.sheet.specs.Lists.{pick, both, either, any, ◌∈◌}
+use borrow.Author.Tests.{leb-true, le-leb, eqb-true, eq-eqb}
+use Rattle.sheet.specs.Lists.{pick, both, either}
 use Rattle.sheet.specs.Refusals.{number_of}
 use Rattle.sheet.specs.declared.rules.Rule.{Rule}
 use Rattle.sheet.specs.declared.rules.Verdict.{Verdict}
 use Rattle.sheet.specs.declared.rules.Verdict.TheVariants.{Fine, Breaks}
-use Rattle.sheet.proofs.Lists.{any_found, found_any}
 
 -- the test passes exactly if P holds
 abbrev pub Decides : Bool → Type 0 → Type 0
@@ -39,45 +37,6 @@ decides-× false b d e = (λ t. absurd (true≢false t refl), λ h. d.1 h.0)
 pub decides-⊎ : {P Q : Type 0} (a b : Bool) → Decides a P → Decides b Q → Decides (either a b) (P ⊎ Q)
 decides-⊎ true b d e = (λ t. inl (d.0 refl), λ h. refl)
 decides-⊎ false b d e = (λ t. inr (e.0 t), λ h. elim h [ inl p ↦ absurd (true≢false (d.1 p) refl) | inr q ↦ e.1 q ])
-
-pub decides_any : {A : Type 0} {P : A → Type 0} (test : A → Bool) → ((x : A) → Decides (test x) (P x)) → (xs : List A)
-    → Decides (any test xs) ((x : A) × (x ∈ xs) × P x)
-decides_any test decides xs = (
-  λ t. let (x, at, passes) = any_found test xs t in (x, at, (decides x).0 passes),
-  λ h. let (x, at, holds) = h in found_any test xs x at ((decides x).1 holds),
-)
-
--- ---- tests that fail
-
--- the test fails exactly if B holds
-abbrev pub Fails : Bool → Type 0 → Type 0
-Fails test B = (test ≡ false) ↔ B
-
-pub fails_not : {P : Type 0} (test : Bool) → Decides test P → Fails test (P → ⊥)
-fails_not true d = (λ e. absurd (true≢false refl e), λ never. absurd (never (d.0 refl)))
-fails_not false d = (λ e p. true≢false (d.1 p) refl, λ never. refl)
-
--- what a test decides holds if it is not refuted
-pub not_refuted : {P : Type 0} (test : Bool) → Decides test P → ((P → ⊥) → ⊥) → P
-not_refuted true d h = d.0 refl
-not_refuted false d h = absurd (h (λ p. true≢false (d.1 p) refl))
-
-pub not_fails : {P : Type 0} (test : Bool) → Decides test P → Fails (not test) P
-not_fails true d = (λ e. d.0 refl, λ p. refl)
-not_fails false d = (λ e. absurd (true≢false refl e), λ p. absurd (true≢false (d.1 p) refl))
-
-pub fails-≤ : (a b : ℕ) → Fails (leb a b) (b < a)
-fails-≤ a b = (leb-false a b, lt-leb a b)
-
-pub fails_both : {B C : Type 0} (a b : Bool) → Fails a B → Fails b C → Fails (both a b) (B ⊎ C)
-fails_both true b f g = (λ e. inr (g.0 e), λ h. ⊎_elim (λ x. absurd (true≢false refl (f.1 x))) g.1 h)
-fails_both false b f g = (λ e. inl (f.0 refl), λ h. refl)
-
-pub fails_either : {B C : Type 0} (a b : Bool) → Fails a B → Fails b C → Fails (either a b) (B × C)
-fails_either true b f g = (λ e. absurd (true≢false refl e), λ h. absurd (true≢false refl (f.1 h.0)))
-fails_either false b f g = (λ e. (f.0 refl, g.0 e), λ h. g.1 h.1)
-
--- ---- verdicts
 
 -- a verdict on whether P holds; its rule breaks have one refusal number
 pub data Judges (number : ℕ) (P : Type 0) : Verdict → Type 0 where

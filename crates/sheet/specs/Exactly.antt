@@ -2,14 +2,13 @@
 -- table and not from the order of the tests.
 use Rattle.std.specs.Prelude.{ℕ, ◌≤◌, ◌<◌, ◌≡◌, List, [], ◌∷◌, ◌++◌, length}
 use Rattle.sheet.specs.Records.{front, row, fault}
-use Rattle.sheet.specs.Cables.{cable_at, switches_of}
-use Rattle.sheet.specs.Faults.{fault_at, Named}
+use Rattle.sheet.specs.Cables.{Socket, cable_at, switches_of}
+use Rattle.sheet.specs.Faults.{fault_at}
 use Rattle.sheet.specs.Lists.{◌∈◌}
-use Rattle.sheet.specs.Sound.{Within}
+use Rattle.sheet.specs.Sound.{Within, sockets}
 use Rattle.sheet.specs.Standing.{Whole, OtherKind, Cut}
 use Rattle.sheet.specs.Accepted.{RowObeys, AcceptedSheet, AcceptedWith}
 use Rattle.sheet.specs.declared.cables.Cable.{Cable}
-use Rattle.sheet.specs.declared.faults.Fault.{Fault}
 use Rattle.sheet.specs.declared.records.Place.{Place}
 
 -- at most 512 records of one place from a start on, each held to its rule and to those before it
@@ -67,12 +66,12 @@ module _ (s : List ℕ) where
     by_count : Refusal2 → SheetRefusal 2
     by_row : Refusal3 → SheetRefusal 3
 
--- a fault is to name a cabled port: an end of a cable of the rows
-abbrev pub Names : List Cable → List Fault → Fault → Type 0
-Names rows before f = (c : Cable) × (c ∈ rows) × Named f c
+-- a fault is to name a cabled port of the rows
+abbrev pub Names : List Cable → List Socket → Socket → Type 0
+Names rows before f = f ∈ sockets rows
 
 module _ (rows : List Cable) (f : List ℕ) where
-  abbrev pub FaultsRight : List Fault → Type 0
+  abbrev pub FaultsRight : List Socket → Type 0
   FaultsRight = AllRight fault fault_at (Names rows) f 0
 
   abbrev pub Refusal4 : Type 0
@@ -88,7 +87,7 @@ module _ (rows : List Cable) (f : List ℕ) where
 -- a sheet and a fault list accepted, or refused: the sheet comes first
 pub record BothAccepted (s f : List ℕ) (n cables : ℕ) : Type 0 where
   pub sheet : AcceptedWith s n cables
-  pub faults : List Fault
+  pub faults : List Socket
   pub right : FaultsRight sheet.rows f faults
 
 pub data EitherRefused (s f : List ℕ) (number : ℕ) : Type 0 where

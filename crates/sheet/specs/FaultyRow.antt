@@ -4,14 +4,13 @@ use Rattle.std.specs.Prelude.{ℕ, ◌+◌, ◌*◌, ◌≡◌, List, take, drop
 use Rattle.std.specs.Borrow.{Bor}
 use Rattle.sheet.specs.Lists.{pick}
 use Rattle.sheet.specs.Records.{Reading, right, wrong}
-use Rattle.sheet.specs.Cables.{sheet_reading}
+use Rattle.sheet.specs.Cables.{Socket, sheet_reading}
 use Rattle.sheet.specs.Faults.{fault_reading}
 use Rattle.sheet.specs.declared.cables.Cable.{Cable}
-use Rattle.sheet.specs.declared.faults.Fault.{Fault}
 use Rattle.sheet.specs.declared.check.Part.{Part}
 use Rattle.sheet.specs.declared.check.Part.TheVariants.{OfSheet, OfFaults}
 
-abbrev pub fault_part_of : Reading Fault → Part
+abbrev pub fault_part_of : Reading Socket → Part
 fault_part_of (right faults) = OfSheet 0 0
 fault_part_of (wrong rule start size) = OfFaults start size
 

@@ -1,6 +1,5 @@
 pub mod Lists
 pub mod Records
-pub mod Sizes
 pub mod Standing
 pub mod Cables
 pub mod Faults
@@ -10,7 +9,6 @@ pub mod FaultyRow
 pub mod Sound
 pub mod Accepted
 pub mod Exactly
-pub mod Refusing
 pub mod Rising
 pub mod Rebuilt
 pub mod Cabling

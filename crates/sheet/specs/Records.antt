@@ -3,16 +3,12 @@
 use Rattle.std.specs.Prelude.{ℕ, zero, suc, ◌+◌, ◌-◌, List, [], ◌∷◌, ◌++◌, length, get_or, leb, eqb}
 use Rattle.sheet.specs.Lists.{pick}
 use Rattle.sheet.specs.declared.records.Place.{Place}
+use Rattle.sheet.specs.declared.records.Form.{Form}
 use Rattle.sheet.specs.declared.records.Found.{Found}
 use Rattle.sheet.specs.declared.records.Found.TheVariants.{Record, WrongKind, CutShort, Ended}
 use Rattle.sheet.specs.declared.rules.Rule.{Rule}
 use Rattle.sheet.specs.declared.rules.Verdict.{Verdict}
 use Rattle.sheet.specs.declared.rules.Verdict.TheVariants.{Fine, Breaks}
-
--- the form of a kind of record
-pub record Form : Type 0 where
-  pub body : ℕ
-  pub place : Place
 
 abbrev pub form : ℕ → ℕ → Form
 form body place = record { body = body; place = record { 0 = place } }

@@ -1,10 +1,9 @@
 -- The refusal numbers of sheet and fault list, and the paper's values for each answer.
-use Rattle.std.specs.Prelude.{ℕ, ◌+◌, List, [], ◌∷◌, map, length}
+use Rattle.std.specs.Prelude.{ℕ, ◌+◌, List, length}
 use Rattle.sheet.specs.Records.{Reading, right, wrong}
-use Rattle.sheet.specs.Cables.{sheet_reading, switches_of}
+use Rattle.sheet.specs.Cables.{Socket, sheet_reading, switches_of}
 use Rattle.sheet.specs.Faults.{fault_reading}
 use Rattle.sheet.specs.declared.cables.Cable.{Cable}
-use Rattle.sheet.specs.declared.faults.Fault.{Fault}
 use Rattle.sheet.specs.declared.rules.Rule.{Rule}
 use Rattle.sheet.specs.declared.rules.Rule.TheVariants.{SheetForm, SwitchCount, SwitchRange, PortRange, SameSwitch, PortUsed}
 use Rattle.sheet.specs.declared.rules.Rule.TheVariants.{FaultForm, FaultUncabled}
@@ -21,12 +20,6 @@ number_of PortUsed = 3
 number_of FaultForm = 4
 number_of FaultUncabled = 5
 
--- the numbers that a sheet or a fault list can be refused by
-abbrev pub list_numbers : List ℕ
-list_numbers =
-    map number_of
-    (SheetForm ∷ SwitchCount ∷ SwitchRange ∷ PortRange ∷ SameSwitch ∷ PortUsed ∷ FaultForm ∷ FaultUncabled ∷ [])
-
 -- an accepted sheet has n switches and so many cables; a refused one its number
 pub data Answer : Type 0 where
   accepted : (n cables : ℕ) → Answer
@@ -37,16 +30,11 @@ abbrev pub answer_of : Checked → Answer
 answer_of (Accepted n cables) = accepted n cables
 answer_of (Refused number) = refused number
 
--- the refusal number; 0 where it is accepted
-abbrev pub refusal_in : Answer → ℕ
-refusal_in (accepted n cables) = 0
-refusal_in (refused number) = number
-
 abbrev pub sheet_answer_of : ℕ → Reading Cable → Answer
 sheet_answer_of n (right rows) = accepted n (length rows)
 sheet_answer_of n (wrong rule start size) = refused (number_of rule)
 
-abbrev pub fault_answer_of : Answer → Reading Fault → Answer
+abbrev pub fault_answer_of : Answer → Reading Socket → Answer
 fault_answer_of sheet (right faults) = sheet
 fault_answer_of sheet (wrong rule start size) = refused (number_of rule)
 

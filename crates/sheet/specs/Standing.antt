@@ -1,7 +1,8 @@
 -- What may stand at a position of the bytes, said by the table of kinds and not by the order of the walker's tests.
 use Rattle.std.specs.Prelude.{ℕ, ◌+◌, ◌≤◌, ◌<◌, ◌≡◌, List, length, get_or}
-use Rattle.sheet.specs.Records.{Form, form_of}
+use Rattle.sheet.specs.Records.{form_of}
 use Rattle.sheet.specs.declared.records.Place.{Place}
+use Rattle.sheet.specs.declared.records.Form.{Form}
 
 -- the form of the record that begins at a position, by its kind byte
 abbrev pub form_at : List ℕ → ℕ → Form

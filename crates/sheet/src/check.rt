@@ -1,6 +1,6 @@
 // Check of a sheet, and of a fault list against a sheet; and the row that is wrong.
 ghost use Rattle.std.specs.Prelude.{◌≡◌};
-ghost use Rattle.sheet.specs.Refusals.{answer_of, refusal_in, sheet_answer, list_answer};
+ghost use Rattle.sheet.specs.Refusals.{answer_of, sheet_answer, list_answer};
 ghost use Rattle.sheet.specs.Told.{checked_of};
 ghost use Rattle.sheet.specs.FaultyRow.{IsPart, faulty_part};
 
@@ -13,18 +13,6 @@ use crate::used::no_port_used;
 pub enum Checked {
     Accepted(u64, u64),
     Refused(u64),
-}
-
-impl Checked {
-    // The refusal number; 0 where it is accepted.
-    pub fn number(self) -> u64
-        ensures { result ≡ refusal_in (answer_of self) }
-    {
-        match self {
-            Checked::Accepted(_, _) => 0,
-            Checked::Refused(number) => number,
-        }
-    }
 }
 
 // What a reading comes to on a sheet of n switches.

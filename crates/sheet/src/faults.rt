@@ -1,51 +1,37 @@
-// Faults: what a fault names, and whether a cable is still live.
+// The fault list: whether a cable is still live.
 ghost use Rattle.std.specs.Prelude.{◌≡◌, ◌<◌, length};
-ghost use Rattle.sheet.specs.Faults.{fault_at, names, faults_of, live};
+ghost use Rattle.sheet.specs.Cables.{carries};
+ghost use Rattle.sheet.specs.Faults.{fault_at, faults_of, live};
 
 use crate::cables::Cable;
 use crate::numbers::{Port, Switch};
-use crate::records::{FAULT, Found, MOST_RECORDS, byte_at, record_at};
+use crate::records::{FAULT, Found, byte_at, record_at};
 
-// Switch and port of either end of the cable that it names.
-#[derive(Drop)]
-pub struct Fault {
-    pub switch: u8,
-    pub port: u8,
-}
+// A fault list has at most this many records, and none after them counts.
+const MOST_FAULTS: usize = 512;
 
-impl Fault {
-    // Whether the port carries an end of the cable.
-    pub(crate) fn names(self, c: Cable) -> bool
-        ensures { result ≡ names self c }
-    {
-        c.carries(Switch(self.switch as u64), Port(self.port as u64))
-    }
-}
-
-// The fault whose kind byte stands at a position.
-pub(crate) fn fault_at(bytes: &[u8], at: usize) -> Fault
-    requires { at < length bytes.now }
-    ensures { result ≡ fault_at bytes.now at }
+// Whether the fault whose kind byte stands at a position names a port that carries an end of the cable.
+fn names(faults: &[u8], at: usize, c: Cable) -> bool
+    requires { at < length faults.now }
+    ensures { result ≡ carries (fault_at faults.now at).switch (fault_at faults.now at).port c }
 {
-    Fault {
-        switch: byte_at(bytes, at + 1),
-        port: byte_at(bytes, at + 2),
-    }
+    let switch = Switch(byte_at(faults, at + 1) as u64);
+    let port = Port(byte_at(faults, at + 2) as u64);
+    c.carries(switch, port)
 }
 
-// A cable is live if no fault names it. The first that does settles it.
+// A cable is live if no fault names a port that carries one of its ends. The first that does settles it.
 pub fn is_live(c: Cable, faults: &[u8]) -> bool
     ensures { result ≡ live (faults_of faults.now) c }
 {
     let mut at: usize = 0;
-    let mut room: usize = MOST_RECORDS;
+    let mut room: usize = MOST_FAULTS;
     while 0 < room {
         let found = record_at(faults, at, FAULT);
         let Found::Record(next) = found else {
             return true;
         };
-        let fault = fault_at(faults, at);
-        if fault.names(c) {
+        if names(faults, at, c) {
             return false;
         }
         at = next;

@@ -8,6 +8,5 @@ pub mod order;
 mod ranges;
 mod reading;
 pub mod records;
-pub mod refusing;
 pub mod rules;
 mod used;

@@ -1,16 +1,14 @@
 // The sheet and the fault list, read from the front, record by record.
-ghost use Rattle.std.specs.Prelude.{◌≡◌, List, ◌∷◌, [], ℕ, ◌≤◌, length};
-ghost use Rattle.sheet.specs.Lists.{any};
+ghost use Rattle.std.specs.Prelude.{◌≡◌, List, ◌∷◌, [], ℕ, ◌+◌, ◌≤◌, ◌<◌, length, get_or};
 ghost use Rattle.sheet.specs.Records.{Reading, right, scan, row, fault};
-ghost use Rattle.sheet.specs.Cables.{row_rule, cable_at, sheet_reading};
-ghost use Rattle.sheet.specs.Faults.{names, fault_reading};
+ghost use Rattle.sheet.specs.Cables.{cabled, row_rule, cable_at, sheet_reading};
+ghost use Rattle.sheet.specs.Faults.{fault_reading};
 ghost use Rattle.sheet.specs.Used.{Marks};
 ghost use Rattle.sheet.specs.Told.{told_of};
 ghost use Rattle.sheet.specs.declared.cables.Cable.{Cable as Row};
 ghost use Rattle.sheet.specs.declared.rules.Rule.TheVariants.{SheetForm};
 
 use crate::cables::{Cable, cable_at};
-use crate::faults::{Fault, fault_at};
 use crate::numbers::{Port, Switch};
 use crate::ranges::{are_within, is_within};
 use crate::records::{FAULT, FRONT, Found, ROW, byte_at, record_at};
@@ -43,11 +41,15 @@ fn judge_row(c: Cable, n: u64, used: &[u64; 64]) -> Verdict
     Verdict::Fine
 }
 
-// Whether a fault names a used port, and so a cable of the rows.
-fn is_fault_cabled(fault: Fault, used: &[u64; 64]) -> bool
-    ensures { (rows : List Row) → Marks used.now rows → result ≡ any (names fault) rows }
+// Whether the fault at a position names a used port.
+fn is_fault_cabled(faults: &[u8], at: usize, used: &[u64; 64]) -> bool
+    requires { at < length faults.now }
+    ensures { (rows : List Row) → Marks used.now rows
+        → result ≡ cabled rows (get_or faults.now (at + 1) 0) (get_or faults.now (at + 2) 0) }
 {
-    is_used(used, Switch(fault.switch as u64), Port(fault.port as u64))
+    let v = Switch(byte_at(faults, at + 1) as u64);
+    let p = Port(byte_at(faults, at + 2) as u64);
+    is_used(used, v, p)
 }
 
 // The cable rows from a position on.
@@ -131,7 +133,7 @@ pub fn read_faults(faults: &[u8], used: &[u64; 64]) -> Told
                 if named == 512 {
                     return Told::Wrong(Rule::FaultForm, at, next - at);
                 }
-                if !is_fault_cabled(fault_at(faults, at), used) {
+                if !is_fault_cabled(faults, at, used) {
                     return Told::Wrong(Rule::FaultUncabled, at, next - at);
                 }
                 at = next;

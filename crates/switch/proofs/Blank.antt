@@ -1,5 +1,5 @@
 -- The first bytes of a tag: one of them is not 0 exactly if the test of rule 9 finds one; and a walk over them that has met only 0.
-use Prim.Native.Nat.{ℕ, zero, suc, ◌+◌, ◌≤◌, ◌<◌}
+use Prim.Native.Nat.{ℕ, zero, suc, ◌+◌, ◌*◌, ◌≤◌, ◌<◌}
 use mathlib.Core.Path.{◌≡◌, refl}
 use mathlib.Core.List.{List, [], ◌∷◌}
 use mathlib.Core.Bool.{Bool, true, false, not}
@@ -9,8 +9,8 @@ use lib.Dec.{eqb}
 use borrow.Author.Tests.{eqb-false, ne_eqb, eqb-true}
 use Rattle.sheet.specs.Lists.{either, any}
 use Rattle.sheet.proofs.Tests.{Decides, true≢false}
-use Rattle.sheet.specs.Refusing.{Not}
-use Rattle.switch.specs.Tag.{tag_size, nonzero, Marked}
+use Rattle.switch.specs.Checks.{nonzero}
+use Rattle.switch.specs.Exactly.{Not, Marked}
 
 any_marked : (k : ℕ) (tag : List ℕ) → any nonzero (take k tag) ≡ true → (i : ℕ) × (i < k) × Not (get_or tag i 0 ≡ 0)
 any_marked zero tag t = absurd (true≢false t refl)
@@ -34,10 +34,10 @@ marked_any (suc k) (b ∷ tag) (suc i) inside marked = go (eqb b 0) (marked_any 
     go true t = t
     go false t = refl
 
-pub marked : (n : ℕ) (tag : List ℕ) → Decides (any nonzero (take (tag_size n) tag)) (Marked n tag)
+pub marked : (n : ℕ) (tag : List ℕ) → Decides (any nonzero (take (2 * n) tag)) (Marked n tag)
 marked n tag = (
-  λ t. let (i, inside, not-0) = any_marked (tag_size n) tag t in record { at = i; inside = inside; marked = not-0 },
-  λ h. marked_any (tag_size n) tag h.at h.inside h.marked,
+  λ t. let (i, inside, not-0) = any_marked (2 * n) tag t in record { at = i; inside = inside; marked = not-0 },
+  λ h. marked_any (2 * n) tag h.at h.inside h.marked,
 )
 
 -- ---- the walk

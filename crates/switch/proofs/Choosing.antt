@@ -12,11 +12,11 @@ use lib.ListN.{drop}
 use lib.Dec.{eqb}
 use borrow.Author.Tests.{eqb-true, eqb-false}
 use Rattle.sheet.specs.Lists.{pick, both, ◌∈◌, Once, All}
+use Rattle.sheet.specs.Cables.{Socket}
 use Rattle.sheet.specs.Faults.{live, faults_of}
 use Rattle.sheet.specs.Order.{port_order, position_of, is_live}
 use Rattle.sheet.specs.Sound.{Sound}
 use Rattle.sheet.specs.declared.cables.Cable.{Cable}
-use Rattle.sheet.specs.declared.faults.Fault.{Fault}
 use Rattle.sheet.proofs.Cabling.{port_of, in_cabled, position_in, ports_once}
 use Rattle.sheet.proofs.Tests.{true≢false}
 use Rattle.switch.specs.Choice.{Outcome, leaves, stays, after_current, first_open, choose, past, after, Shut, Chosen}
@@ -73,7 +73,7 @@ module _ (ports : List ℕ) (lives : ℕ → Bool) (parent current : ℕ) where
   all_snoc [] x all shut = (shut, tt)
   all_snoc (y ∷ xs) x all shut = (all.0, all_snoc xs x all.1 shut)
 
-  first_open_lem : (faults : List Fault) (passed : List ℕ) (cables : List Cable) → after current ports ≡ passed ++ map port_of cables
+  first_open_lem : (faults : List Socket) (passed : List ℕ) (cables : List Cable) → after current ports ≡ passed ++ map port_of cables
       → All Closed passed → ((c : Cable) → c ∈ cables → lives (port_of c) ≡ live faults c)
       → Chosen ports lives parent current (first_open faults parent current cables)
   unfolding first_open

@@ -1,4 +1,3 @@
-pub mod TagBytes
 pub mod Choosing
 pub mod Failing
 pub mod Blank
@@ -7,7 +6,7 @@ pub mod Moving
 pub mod Passing
 pub mod Stepping
 pub mod Exactly
-pub mod Writing
+pub mod Tag
 pub mod Rebuilding
 pub mod OneAnswer
 pub mod Advancing

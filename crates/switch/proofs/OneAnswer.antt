@@ -6,8 +6,8 @@ use mathlib.Core.Path.{◌≡◌, refl, ap, sym, ◌∙◌}
 use mathlib.Core.List.{List}
 use native.Mathlib.Omega.{arith}
 use Rattle.sheet.specs.declared.order.FarEnd.{FarEnd}
-use Rattle.switch.specs.Answers.{paper_of, move_end, move_port}
-use Rattle.switch.specs.Step.{Advance, Stepped, away_of, told, told_move}
+use Rattle.switch.specs.Answers.{paper_of, move_paper}
+use Rattle.switch.specs.Step.{Stepped, away_of, told, told_move}
 use Rattle.switch.specs.declared.step.Answer.{Answer}
 use Rattle.switch.specs.declared.step.Moved.{Moved}
 use Rattle.switch.specs.declared.step.Move.{Move}
@@ -40,32 +40,33 @@ one_out (Refused k) (Forwarded p) e = apart 3 0 (λ z. omega arith) (λ i. (e i)
 one_out (Refused k) Delivered e = apart 3 1 (λ z. omega arith) (λ i. (e i).end)
 one_out (Refused k) None e = apart 3 2 (λ z. omega arith) (λ i. (e i).end)
 
-pub one_move : (m m' : Move) → move_end m ≡ move_end m' → move_port m ≡ move_port m' → m ≡ m'
-one_move (Leaves p) (Leaves p') e port = ap Leaves (λ i. record { 0 = port i })
-one_move Move.Delivered Move.Delivered e port = refl
-one_move Nowhere Nowhere e port = refl
-one_move (Leaves p) Move.Delivered e port = apart 0 1 (λ z. omega arith) e
-one_move (Leaves p) Nowhere e port = apart 0 2 (λ z. omega arith) e
-one_move Move.Delivered (Leaves p) e port = apart 1 0 (λ z. omega arith) e
-one_move Move.Delivered Nowhere e port = apart 1 2 (λ z. omega arith) e
-one_move Nowhere (Leaves p) e port = apart 2 0 (λ z. omega arith) e
-one_move Nowhere Move.Delivered e port = apart 2 1 (λ z. omega arith) e
+pub one_move : (m m' : Move) → move_paper m ≡ move_paper m' → m ≡ m'
+one_move (Leaves p) (Leaves p') e = ap Leaves (λ i. record { 0 = (e i).port })
+one_move Move.Delivered Move.Delivered e = refl
+one_move Nowhere Nowhere e = refl
+one_move (Leaves p) Move.Delivered e = apart 0 1 (λ z. omega arith) (λ i. (e i).end)
+one_move (Leaves p) Nowhere e = apart 0 2 (λ z. omega arith) (λ i. (e i).end)
+one_move Move.Delivered (Leaves p) e = apart 1 0 (λ z. omega arith) (λ i. (e i).end)
+one_move Move.Delivered Nowhere e = apart 1 2 (λ z. omega arith) (λ i. (e i).end)
+one_move Nowhere (Leaves p) e = apart 2 0 (λ z. omega arith) (λ i. (e i).end)
+one_move Nowhere Move.Delivered e = apart 2 1 (λ z. omega arith) (λ i. (e i).end)
 
 one_far : (e e' : FarEnd) → away_of e ≡ away_of e' → e ≡ e'
 one_far e e' same = (λ i. record { switch = record { 0 = (same i).switch }; port = record { 0 = (same i).port } })
 
 -- ---- the step, and the step after the checks
 
-pub one_step : {step : Stepped} {tag tag' : List ℕ} (r r' : Answer) → told r tag ≡ step → told r' tag' ≡ step → (r ≡ r') × (tag ≡ tag')
-one_step r r' p q =
-    let same = p ∙ sym q in
-    let out = one_out r.out r'.out (λ i. (same i).paper) in
-    let far = one_far r.far r'.far (λ i. (same i).far) in
-    ((λ i. record { out = out i; far = far i }), (λ i. (same i).tag))
+module _ {step : Stepped} {tag tag' : List ℕ} where
+  pub one_step : (r r' : Answer) → told r tag ≡ step → told r' tag' ≡ step → (r ≡ r') × (tag ≡ tag')
+  one_step r r' p q =
+      let same = p ∙ sym q in
+      let out = one_out r.out r'.out (λ i. (same i).paper) in
+      let far = one_far r.far r'.far (λ i. (same i).far) in
+      ((λ i. record { out = out i; far = far i }), (λ i. (same i).tag))
 
-pub one_advance : {step : Advance} (r r' : Moved) → told_move r ≡ step → told_move r' ≡ step → r ≡ r'
-one_advance r r' p q =
-    let same = p ∙ sym q in
-    let go = one_move r.go r'.go (λ i. (same i).end) (λ i. (same i).port) in
-    let far = one_far r.far r'.far (λ i. (same i).far) in
-    (λ i. record { go = go i; far = far i; cell = (same i).cell })
+  pub one_advance : (r r' : Moved) → told_move r tag ≡ step → told_move r' tag' ≡ step → (r ≡ r') × (tag ≡ tag')
+  one_advance r r' p q =
+      let same = p ∙ sym q in
+      let go = one_move r.go r'.go (λ i. (same i).paper) in
+      let far = one_far r.far r'.far (λ i. (same i).far) in
+      ((λ i. record { go = go i; far = far i }), (λ i. (same i).tag))

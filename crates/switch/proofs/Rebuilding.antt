@@ -1,31 +1,36 @@
 -- Condition 2, the step's share: a sheet built anew, its rows in another order and each either way round, gives the same answer and the
 -- same tag, whatever else is passed. The step asks the sheet for the answer to the lists and for one port order, and both are the same.
 use Prim.Native.Nat.{ℕ}
-use mathlib.Core.Path.{◌≡◌, ap₂}
+use mathlib.Core.Path.{◌≡◌, refl, ap₂}
 use mathlib.Core.List.{List}
-use Rattle.sheet.specs.Cables.{switches_of}
-use Rattle.sheet.specs.Refusals.{Answer}
+use Rattle.sheet.specs.Cables.{rows_of, switches_of}
+use Rattle.sheet.specs.Order.{port_order}
+use Rattle.sheet.specs.Refusals.{Answer, accepted, refused, list_answer}
 use Rattle.sheet.specs.Accepted.{AcceptedSheet}
 use Rattle.sheet.specs.Rebuilt.{Rebuilt, sheet_bytes}
 use Rattle.sheet.specs.Cabling.{SameCabling}
 use Rattle.sheet.specs.declared.cables.Cable.{Cable}
 use Rattle.sheet.proofs.RebuiltSheet.{rebuilt_sheet}
-use Rattle.sheet.specs.Refusing.{after_lists}
-use Rattle.switch.specs.Tag.{cell_of}
-use Rattle.switch.specs.Checks.{step_rules, step_checks}
-use Rattle.switch.specs.Step.{Stepped, unless, answered, advanced, stepped}
+use Rattle.switch.specs.Checks.{checks}
+use Rattle.switch.specs.Step.{Stepped, stopped, unless, advanced, stepped_on, stepped}
 
 module _ (f tag : List ℕ) (v arrival d : ℕ) where
   -- the step by what it asks of the sheet
-  asked : Answer → List Cable → Stepped
-  asked answer order =
-      unless (after_lists answer (λ n cables. step_rules order f tag v arrival d n)) tag
-      (answered tag v (advanced order f (cell_of tag v) v arrival d))
+  answered : Answer → List Cable → Stepped
+  answered (refused number) order = stopped 3 number tag
+  answered (accepted n cables) order = unless (checks n order f tag v arrival d) tag (advanced order f tag v arrival d)
+
+  asks : (s : List ℕ) → stepped s f tag v arrival d ≡ answered (list_answer s f) (port_order (rows_of s) v)
+  unfolding stepped answered
+  asks s = by_answer (list_answer s f)
+    where
+      by_answer : (answer : Answer) → stepped_on answer s f tag v arrival d ≡ answered answer (port_order (rows_of s) v)
+      by_answer (refused number) = refl
+      by_answer (accepted n cables) = refl
 
   -- two sheets that answer every question alike
   pub same_step : (s s' : List ℕ) → SameCabling s s' → stepped s f tag v arrival d ≡ stepped s' f tag v arrival d
-  unfolding stepped step_checks asked
-  same_step s s' same = ap₂ asked (same.answers f) (same.order v)
+  same_step s s' same = rw (asks s, asks s') (ap₂ answered (same.answers f) (same.order v))
 
 pub rebuilt_step : {s s' : List ℕ} {rows rows' : List Cable} → AcceptedSheet s rows → Rebuilt rows rows'
     → s' ≡ sheet_bytes (switches_of s) rows' → (f tag : List ℕ) (v arrival d : ℕ)

@@ -1,7 +1,7 @@
--- What a step comes to by the cases of its definition: refused by a check, or answered by its advance; and an advance ends in one of
--- three ways. The other laws of the step go by these cases and not by the definition.
+-- What a step comes to by the cases of its definition: refused by the lists, refused by a check, or advanced; and an advance ends in one
+-- of three ways. The other laws of the step go by these cases and not by the definition.
 use Prim.Native.Nat.{ℕ}
-use mathlib.Core.Path.{◌≡◌, refl, ap}
+use mathlib.Core.Path.{◌≡◌, refl}
 use mathlib.Core.List.{List}
 use mathlib.Core.Bool.{Bool, true, false}
 use lib.Dec.{eqb}
@@ -10,21 +10,21 @@ use Rattle.sheet.specs.Lists.{pick}
 use Rattle.sheet.specs.Cables.{rows_of}
 use Rattle.sheet.specs.Faults.{faults_of}
 use Rattle.sheet.specs.Order.{port_order}
+use Rattle.sheet.specs.Refusals.{Answer, accepted, refused, list_answer}
 use Rattle.sheet.specs.Sound.{Sound}
 use Rattle.sheet.specs.Accepted.{AcceptedSheet}
 use Rattle.sheet.specs.Exactly.{BothAccepted}
 use Rattle.sheet.specs.declared.cables.Cable.{Cable}
-use Rattle.sheet.specs.declared.refusing.Check.{Check}
-use Rattle.sheet.specs.declared.refusing.Check.TheVariants.{Passed, Refused}
 use Rattle.sheet.proofs.Accepted.{accepted_of}
 use Rattle.sheet.proofs.Sheet.{rows_of_lem}
 use Rattle.sheet.proofs.FaultList.{fault_right, faults_of_lem}
 use Rattle.switch.specs.Choice.{Outcome, leaves, stays, choose}
-use Rattle.switch.specs.Cell.{entered}
-use Rattle.switch.specs.Tag.{cell_of}
-use Rattle.switch.specs.Checks.{step_checks}
-use Rattle.switch.specs.Step.{Advance, stopped, moved, advanced, Stepped, answered, refused_by, unless, stepped}
+use Rattle.switch.specs.Cell.{cell_of, entered}
+use Rattle.switch.specs.Checks.{checks}
+use Rattle.switch.specs.Step.{Stepped, stopped, moved, advanced, unless, stepped_on, stepped}
 use Rattle.switch.specs.declared.cell.Cell.{Cell}
+use Rattle.switch.specs.declared.checks.Check.{Check}
+use Rattle.switch.specs.declared.checks.Check.TheVariants.{Passed, Refused}
 
 -- ---- what accepted lists say of the step's arguments
 
@@ -44,54 +44,66 @@ module _ {s f : List ℕ} {n cables : ℕ} (lists : BothAccepted s f n cables) w
 -- ---- an advance
 
 -- after the checks: delivered, none, or forwarded by the choice
-pub data Advances (order : List Cable) (f : List ℕ) (found : Cell) (v arrival d : ℕ) : Advance → Type 0 where
-  delivered : v ≡ d → Advances order f found v arrival d (stopped 1 found)
-  undelivered : (v ≡ d → ⊥) → choose (faults_of f) (entered found arrival).parent.0 found.current.0 order ≡ stays
-      → Advances order f found v arrival d (stopped 2 found)
+pub data Advances (order : List Cable) (f tag : List ℕ) (v arrival d : ℕ) : Stepped → Type 0 where
+  delivered : v ≡ d → Advances order f tag v arrival d (stopped 1 0 tag)
+  undelivered : (v ≡ d → ⊥)
+      → choose (faults_of f) (entered (cell_of tag v) arrival).parent.0 (cell_of tag v).current.0 order ≡ stays
+      → Advances order f tag v arrival d (stopped 2 0 tag)
   forwarded : (v ≡ d → ⊥) → {port current : ℕ}
-      → choose (faults_of f) (entered found arrival).parent.0 found.current.0 order ≡ leaves port current
-      → Advances order f found v arrival d (moved order found (entered found arrival) (leaves port current))
+      → choose (faults_of f) (entered (cell_of tag v) arrival).parent.0 (cell_of tag v).current.0 order ≡ leaves port current
+      → Advances order f tag v arrival d (moved order tag v (entered (cell_of tag v) arrival) (leaves port current))
 
-pub advances : (order : List Cable) (f : List ℕ) (found : Cell) (v arrival d : ℕ)
-    → Advances order f found v arrival d (advanced order f found v arrival d)
+pub advances : (order : List Cable) (f tag : List ℕ) (v arrival d : ℕ)
+    → Advances order f tag v arrival d (advanced order f tag v arrival d)
 unfolding advanced
-advances order f found v arrival d = go (eqb v d) refl
+advances order f tag v arrival d = go (eqb v d) refl
   where
     cell : Cell
-    cell = entered found arrival
+    cell = entered (cell_of tag v) arrival
 
     choice : Outcome
     choice = choose (faults_of f) cell.parent.0 cell.current.0 order
 
-    by_choice : (v ≡ d → ⊥) → (o : Outcome) → choice ≡ o → Advances order f found v arrival d (moved order found cell o)
+    by_choice : (v ≡ d → ⊥) → (o : Outcome) → choice ≡ o → Advances order f tag v arrival d (moved order tag v cell o)
     by_choice away (leaves port current) e = forwarded away e
     by_choice away stays e = undelivered away e
 
-    go : (b : Bool) → eqb v d ≡ b → Advances order f found v arrival d (pick b (stopped 1 found) (moved order found cell choice))
+    go : (b : Bool) → eqb v d ≡ b → Advances order f tag v arrival d (pick b (stopped 1 0 tag) (moved order tag v cell choice))
     go true e = delivered (eqb-true v d e)
     go false e = by_choice (eqb-false v d e) choice refl
 
 -- ---- a step
 
+-- refused by the lists; refused by a check; or advanced after all checks
+pub data Steps (s f tag : List ℕ) (v arrival d : ℕ) : Stepped → Type 0 where
+  lists_refuse : {number : ℕ} → list_answer s f ≡ refused number → Steps s f tag v arrival d (stopped 3 number tag)
+  check_refuses : {n cables number : ℕ} → list_answer s f ≡ accepted n cables
+      → checks n (port_order (rows_of s) v) f tag v arrival d ≡ Refused number → Steps s f tag v arrival d (stopped 3 number tag)
+  passes : {n cables : ℕ} → list_answer s f ≡ accepted n cables
+      → checks n (port_order (rows_of s) v) f tag v arrival d ≡ Passed
+      → Steps s f tag v arrival d (advanced (port_order (rows_of s) v) f tag v arrival d)
+
 module _ (s f tag : List ℕ) (v arrival d : ℕ) where
-  -- the advance at this switch
-  abbrev pub advance : Advance
-  advance = advanced (port_order (rows_of s) v) f (cell_of tag v) v arrival d
-
-  -- refused by a check, or answered after all checks
-  pub data Steps : Stepped → Type 0 where
-    refuses : {number : ℕ} → step_checks s f tag v arrival d ≡ Refused number → Steps (refused_by number tag)
-    passes : step_checks s f tag v arrival d ≡ Passed → Steps (answered tag v advance)
-
-  pub steps : Steps (stepped s f tag v arrival d)
+  pub steps : Steps s f tag v arrival d (stepped s f tag v arrival d)
   unfolding stepped
-  steps = by (step_checks s f tag v arrival d) refl
+  steps = by_answer (list_answer s f) refl
     where
-      by : (check : Check) → step_checks s f tag v arrival d ≡ check → Steps (unless check tag (answered tag v advance))
-      by Passed e = passes e
-      by (Refused number) e = refuses e
+      by_check : {n cables : ℕ} → list_answer s f ≡ accepted n cables → (check : Check)
+          → checks n (port_order (rows_of s) v) f tag v arrival d ≡ check
+          → Steps s f tag v arrival d (unless check tag (advanced (port_order (rows_of s) v) f tag v arrival d))
+      by_check e Passed e' = passes e e'
+      by_check e (Refused number) e' = check_refuses e e'
 
-  pub step_by : {check : Check} → step_checks s f tag v arrival d ≡ check
-      → stepped s f tag v arrival d ≡ unless check tag (answered tag v advance)
+      by_answer : (answer : Answer) → list_answer s f ≡ answer → Steps s f tag v arrival d (stepped_on answer s f tag v arrival d)
+      by_answer (refused number) e = lists_refuse e
+      by_answer (accepted n cables) e = by_check e (checks n (port_order (rows_of s) v) f tag v arrival d) refl
+
+  pub stepped_refused : {number : ℕ} → list_answer s f ≡ refused number → stepped s f tag v arrival d ≡ stopped 3 number tag
   unfolding stepped
-  step_by e = ap (λ check. unless check tag (answered tag v advance)) e
+  stepped_refused e = rw e
+
+  pub stepped_accepted : {n cables : ℕ} → list_answer s f ≡ accepted n cables
+      → stepped s f tag v arrival d
+      ≡ unless (checks n (port_order (rows_of s) v) f tag v arrival d) tag (advanced (port_order (rows_of s) v) f tag v arrival d)
+  unfolding stepped
+  stepped_accepted e = rw e

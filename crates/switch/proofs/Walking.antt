@@ -1,6 +1,6 @@
 -- The choice as a walk over the places of a port order: a cable that is not open leaves the choice to the cables after it, an open one
 -- decides, and past the last the parent does.
-use Prim.Native.Nat.{ℕ, suc, ◌+◌, ◌≤◌, ◌<◌}
+use Prim.Native.Nat.{ℕ, suc, ◌+◌, ◌*◌, ◌/◌, ◌≤◌, ◌<◌}
 use mathlib.Core.Path.{◌≡◌, refl, ap, sym, ◌∙◌}
 use mathlib.Core.List.{List, [], ◌∷◌}
 use mathlib.Core.Bool.{Bool, true, false, not}
@@ -8,13 +8,14 @@ use native.Mathlib.Omega.{arith}
 use native.Mathlib.Numerals.{add-one}
 use lib.ListN.{length, drop, drop_of_length-le, length-map}
 use lib.Seq.{drop-cons}
-use lib.Dec.{eqb}
-use borrow.Author.Tests.{eq-eqb, ne_eqb}
+use lib.Dec.{leb, eqb}
+use borrow.Author.Tests.{leb-true, le-leb, eq-eqb, ne_eqb}
 use Rattle.sheet.specs.Lists.{pick, both}
+use Rattle.sheet.specs.Cables.{Socket}
 use Rattle.sheet.specs.Faults.{live}
 use Rattle.sheet.specs.Order.{position_of, cable_of, no_cable, placed_cable, cables_at}
 use Rattle.sheet.specs.declared.cables.Cable.{Cable}
-use Rattle.sheet.specs.declared.faults.Fault.{Fault}
+use Rattle.sheet.proofs.Lists.{same_test}
 use Rattle.switch.specs.Choice.{leaves, stays, outcome_of, Storable, by_parent, first_open}
 use Rattle.switch.specs.declared.choice.Choice.{Choice}
 use Rattle.switch.specs.declared.choice.Choice.TheVariants.{Leaves, Stays}
@@ -29,11 +30,11 @@ position_within p (c ∷ order) = go (eqb c.near.port p) (position_within p orde
     go true h = omega arith
     go false h = omega arith
 
-abbrev pub is_open : List Fault → ℕ → Cable → Bool
+abbrev pub is_open : List Socket → ℕ → Cable → Bool
 is_open faults parent c = both (live faults c) (not (eqb c.near.port parent))
 
 -- the parent is not open
-pub parent_shut : (faults : List Fault) (parent : ℕ) (c : Cable) → c.near.port ≡ parent → false ≡ is_open faults parent c
+pub parent_shut : (faults : List Socket) (parent : ℕ) (c : Cable) → c.near.port ≡ parent → false ≡ is_open faults parent c
 parent_shut faults parent c same = rw (eq-eqb c.near.port parent same) (go (live faults c))
   where
     go : (a : Bool) → false ≡ both a false
@@ -41,7 +42,7 @@ parent_shut faults parent c same = rw (eq-eqb c.near.port parent same) (go (live
     go false = refl
 
 -- and any other port is, if its cable lives
-pub other_open : (faults : List Fault) (parent : ℕ) (c : Cable) {lives : Bool} → (c.near.port ≡ parent → ⊥) → lives ≡ live faults c
+pub other_open : (faults : List Socket) (parent : ℕ) (c : Cable) {lives : Bool} → (c.near.port ≡ parent → ⊥) → lives ≡ live faults c
     → lives ≡ is_open faults parent c
 other_open faults parent c other e = e ∙ rw (ne_eqb c.near.port parent other) (go (live faults c))
   where
@@ -50,10 +51,10 @@ other_open faults parent c other e = e ∙ rw (ne_eqb c.near.port parent other) 
     go false = refl
 
 -- the choice from one position is the choice from another
-pub record From (order : List Cable) (faults : List Fault) (parent current from i : ℕ) : Type 0 where
+pub record From (order : List Cable) (faults : List Socket) (parent current from i : ℕ) : Type 0 where
   pub same : first_open faults parent current (drop from order) ≡ first_open faults parent current (drop i order)
 
-module _ (s places : List ℕ) {faults : List Fault} {parent current from i : ℕ}
+module _ (s places : List ℕ) {faults : List Socket} {parent current from i : ℕ}
     (walked : From (cables_at s places) faults parent current from i) where
   abbrev order : List Cable
   order = cables_at s places
@@ -88,3 +89,10 @@ by_parent_storable (Leaves p k) parent current e small = go (eqb parent 0) e
     go : (b : Bool) → leaves p.0 k.0 ≡ pick b stays (leaves parent current) → k.0 < 256
     go true e' = let z : ◌≡◌ {A = ℕ} 0 1 = cc in absurd (omega arith)
     go false e' = let same : k.0 ≡ current = cc in omega arith
+
+-- the halved length decides rule 7 as the doubled number of switches does
+pub halved : (n size : ℕ) → leb n (size / 2) ≡ leb (2 * n) size
+halved n size =
+    same_test (leb n (size / 2)) (leb (2 * n) size)
+    (λ t. le-leb (2 * n) size (omega (arith, leb-true n (size / 2) t)))
+    (λ t. le-leb n (size / 2) (omega (arith, leb-true (2 * n) size t)))

@@ -21,16 +21,11 @@ paper_of Delivered = paper 1 0 0
 paper_of None = paper 2 0 0
 paper_of (Refused number) = paper 3 0 number
 
--- the end of a step that has passed the checks, and the port left by
-abbrev pub move_end : Move → ℕ
-move_end (Leaves p) = 0
-move_end Move.Delivered = 1
-move_end Nowhere = 2
-
-abbrev pub move_port : Move → ℕ
-move_port (Leaves p) = p.0
-move_port Move.Delivered = 0
-move_port Nowhere = 0
+-- the same of a step that has passed the checks
+abbrev pub move_paper : Move → Paper
+move_paper (Leaves p) = paper 0 p.0 0
+move_paper Move.Delivered = paper 1 0 0
+move_paper Nowhere = paper 2 0 0
 
 -- the answer as one number, for a host program in C
 abbrev pub door_number : Paper → ℕ

@@ -2,9 +2,9 @@
 use Rattle.std.specs.Prelude.{ℕ, ◌+◌, ◌<◌, ◌≡◌, List, [], ◌∷◌, ◌++◌, ◌⊎◌, Bool, true, false, not, drop, eqb}
 use Rattle.sheet.specs.Lists.{pick, both, All}
 use Rattle.sheet.specs.Faults.{live}
+use Rattle.sheet.specs.Cables.{Socket}
 use Rattle.sheet.specs.Order.{position_of}
 use Rattle.sheet.specs.declared.cables.Cable.{Cable}
-use Rattle.sheet.specs.declared.faults.Fault.{Fault}
 use Rattle.switch.specs.declared.choice.Choice.{Choice}
 use Rattle.switch.specs.declared.choice.Choice.TheVariants.{Leaves, Stays}
 
@@ -32,13 +32,13 @@ abbrev pub by_parent : ℕ → ℕ → Outcome
 by_parent parent current = pick (eqb parent 0) stays (leaves parent current)
 
 -- step 3: the first that lives and is not the parent
-unfoldable pub first_open : List Fault → ℕ → ℕ → List Cable → Outcome
+unfoldable pub first_open : List Socket → ℕ → ℕ → List Cable → Outcome
 first_open faults parent current [] = by_parent parent current
 first_open faults parent current (c ∷ cables) =
     pick (both (live faults c) (not (eqb c.near.port parent))) (leaves c.near.port c.near.port)
     (first_open faults parent current cables)
 
-unfoldable pub choose : List Fault → ℕ → ℕ → List Cable → Outcome
+unfoldable pub choose : List Socket → ℕ → ℕ → List Cable → Outcome
 choose faults parent current order = first_open faults parent current (after_current current order)
 
 -- ---- what the choice means, said of the port numbers alone

@@ -1,6 +1,5 @@
 pub mod Choice
 pub mod Cell
-pub mod Tag
 pub mod Answers
 pub mod Checks
 pub mod Step

@@ -1,8 +1,8 @@
-// The tag cell of one switch, by value: parent port and current port.
+// The tag cell of one switch: two bytes of the tag, parent port and then current port. Only `read` and `write` touch the tag's bytes.
 ghost use Rattle.std.specs.Prelude.{◌≡◌};
-ghost use Rattle.switch.specs.Cell.{entered, left_by};
+ghost use Rattle.switch.specs.Cell.{CellInside, CellFits, cell_of, with_cell, entered, left_by};
 
-use sheet::numbers::Port;
+use sheet::numbers::{Port, Switch};
 
 // The port by which the packet first came in, and the port by which it last left; 0 is no port.
 #[derive(Drop)]
@@ -12,6 +12,28 @@ pub struct Cell {
 }
 
 impl Cell {
+    pub(crate) fn read(tag: &[u8], v: Switch) -> Cell
+        requires { CellInside tag.now v.0 }
+        ensures exact { result ≡ cell_of tag.now v.0 }
+        ensures bytes { CellFits result }
+    {
+        let first = 2 * (v.0 as usize - 1);
+        Cell {
+            parent: Port(tag[first] as u64),
+            current: Port(tag[first + 1] as u64),
+        }
+    }
+
+    pub(crate) fn write(self, tag: &mut [u8], v: Switch)
+        requires cell_inside { CellInside tag.old v.0 }
+        requires cell_fits { CellFits self }
+        ensures { tag.new ≡ with_cell tag.old v.0 self }
+    {
+        let first = 2 * (v.0 as usize - 1);
+        tag[first] = self.parent.0 as u8;
+        tag[first + 1] = self.current.0 as u8;
+    }
+
     // A switch that the packet has not left yet, or has left only by its parent, takes the arrival port for its parent.
     pub fn entered(self, arrival: Port) -> Cell
         ensures { result ≡ entered self arrival.0 }

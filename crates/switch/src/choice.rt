@@ -51,9 +51,10 @@ fn by_parent(cell: Cell) -> Choice
 
 // The choice among the cables from a position on.
 fn first_open(sheet: &[u8], order: &[u16], faults: &[u8], cell: Cell, from: Position) -> Choice
+    requires { cell.current.0 < 256 }
     ensures exact { outcome_of result ≡ first_open (faults_of faults.now) cell.parent.0 cell.current.0
         (drop from.0 (cables_at sheet.now order.now)) }
-    ensures storable { cell.current.0 < 256 → Storable result }
+    ensures storable { Storable result }
 {
     let parent = cell.parent;
     let mut i = from.0 as usize;
@@ -81,10 +82,11 @@ fn after_current(sheet: &[u8], order: &[u16], current: Port) -> Position
 }
 
 pub fn choose(sheet: &[u8], order: &[u16], faults: &[u8], cell: Cell) -> Choice
+    requires { cell.current.0 < 256 }
     ensures exact { outcome_of result
         ≡ choose (faults_of faults.now) cell.parent.0 cell.current.0
         (cables_at sheet.now order.now) }
-    ensures storable { cell.current.0 < 256 → Storable result }
+    ensures storable { Storable result }
 {
     let from = after_current(sheet, order, cell.current);
     first_open(sheet, order, faults, cell, from)

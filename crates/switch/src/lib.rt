@@ -4,4 +4,3 @@ pub mod checks;
 mod choice;
 pub mod door;
 pub mod step;
-pub mod tag;

@@ -1,18 +1,15 @@
 // One step: the checks, then the published choice.
-ghost use Rattle.std.specs.Prelude.{◌≡◌, ◌<◌};
+ghost use Rattle.std.specs.Prelude.{◌≡◌};
 ghost use Rattle.sheet.specs.Order.{cables_at};
-ghost use Rattle.switch.specs.Tag.{CellFits, cell_of, with_cell};
-ghost use Rattle.switch.specs.Answers.{paper, paper_of};
-ghost use Rattle.switch.specs.Step.{Ready, step_paper, away_of, nowhere, told_move, told, advanced, stepped};
+ghost use Rattle.switch.specs.Answers.{paper, paper_of, move_paper};
+ghost use Rattle.switch.specs.Step.{Ready, away_of, nowhere, told_move, told, lists_number, advanced, stepped};
 
 use crate::cell::Cell;
-use crate::checks::{check_call, check_packet};
+use crate::checks::{Check, check_arrival, check_cell, check_fresh, check_switches, check_tag};
 use crate::choice::{Choice, choose};
-use crate::tag::{read_cell, write_cell};
 use sheet::check::{Checked, check_faults};
 use sheet::numbers::{Port, Switch};
 use sheet::order::{FarEnd, far_end, port_order};
-use sheet::refusing::Check;
 
 // How a step ends.
 #[derive(Drop)]
@@ -38,12 +35,11 @@ pub enum Move {
     Nowhere,
 }
 
-// A step that has passed the checks: its end with the real port, the far end of the cable, and the switch's cell afterwards.
+// The same of a step that has passed the checks.
 #[derive(Drop)]
 pub struct Moved {
     pub go: Move,
     pub far: FarEnd,
-    pub cell: Cell,
 }
 
 const NO_FAR_END: FarEnd = FarEnd {
@@ -51,50 +47,19 @@ const NO_FAR_END: FarEnd = FarEnd {
     port: Port(0),
 };
 
-// The packet leaves by no port, and the cell stays.
-fn stay(go: Move, found: Cell) -> Moved
-    ensures { (result.go ≡ go) × (away_of result.far ≡ nowhere) × (result.cell ≡ found) }
+// The packet leaves by no port.
+fn stopped(go: Move) -> Moved
+    ensures { (result.go ≡ go) × (away_of result.far ≡ nowhere) }
 {
     Moved {
         go: go,
         far: NO_FAR_END,
-        cell: found,
     }
 }
 
-// The step after the checks, from the cell that is found to the cell that is left. Rules 1 to 4 of the step: at the destination nothing is
-// looked at; else the cell takes its parent where it has no current port, and the choice says by which port the packet leaves and which
-// port is current from then on.
+// The step after the checks. Rules 1 to 4 of the step: at the destination nothing is read or written; else the cell takes its parent where
+// it has no current port, and the choice says by which port the packet leaves and which port is current from then on.
 pub fn advance(
-    sheet: &[u8],
-    order: &[u16],
-    faults: &[u8],
-    found: Cell,
-    v: Switch,
-    arrival: Port,
-    d: Switch,
-) -> Moved
-    ensures exact { told_move result ≡ advanced (cables_at sheet.now order.now) faults.now found
-        v.0 arrival.0 d.0 }
-    ensures fits { CellFits found → arrival.0 < 256 → CellFits result.cell }
-{
-    if v.0 == d.0 {
-        return stay(Move::Delivered, found);
-    }
-    let cell = found.entered(arrival);
-    let choice = choose(sheet, order, faults, cell);
-    let Choice::Leaves(port, current) = choice else {
-        return stay(Move::Nowhere, found);
-    };
-    Moved {
-        go: Move::Leaves(port),
-        far: far_end(sheet, order, port),
-        cell: cell.left_by(current),
-    }
-}
-
-// The same on a tag: the cell of the switch is read, and written as the step leaves it.
-pub fn advance_tag(
     sheet: &[u8],
     order: &[u16],
     faults: &[u8],
@@ -104,14 +69,25 @@ pub fn advance_tag(
     d: Switch,
 ) -> Moved
     requires { Ready tag.old v.0 arrival.0 }
-    ensures exact { told_move result ≡ advanced (cables_at sheet.now order.now) faults.now
-        (cell_of tag.old v.0) v.0 arrival.0 d.0 }
-    ensures bytes { tag.new ≡ with_cell tag.old v.0 result.cell }
+    ensures { told_move result tag.new
+        ≡ advanced (cables_at sheet.now order.now) faults.now tag.old
+        v.0 arrival.0 d.0 }
 {
-    let found = read_cell(tag, v);
-    let moved = advance(sheet, order, faults, found, v, arrival, d);
-    write_cell(tag, v, moved.cell);
-    moved
+    if v.0 == d.0 {
+        return stopped(Move::Delivered);
+    }
+    let found = Cell::read(tag, v);
+    let cell = found.entered(arrival);
+    let choice = choose(sheet, order, faults, cell);
+    let Choice::Leaves(port, current) = choice else {
+        return stopped(Move::Nowhere);
+    };
+    let left = cell.left_by(current);
+    left.write(tag, v);
+    Moved {
+        go: Move::Leaves(port),
+        far: far_end(sheet, order, port),
+    }
 }
 
 // A refusal with its number.
@@ -124,10 +100,20 @@ fn refused(number: u64) -> Answer
     }
 }
 
+// The refusal number of sheet and fault list; 0 where both are accepted.
+fn lists_number(lists: Checked) -> u64
+    ensures { result ≡ lists_number lists }
+{
+    match lists {
+        Checked::Accepted(_, _) => 0,
+        Checked::Refused(number) => number,
+    }
+}
+
 impl Moved {
     // As the answer of a step.
     fn answer(self) -> Answer
-        ensures { (paper_of result.out ≡ step_paper (told_move self)) × (away_of result.far ≡ away_of self.far) }
+        ensures { (paper_of result.out ≡ move_paper self.go) × (away_of result.far ≡ away_of self.far) }
     {
         let go = self.go;
         let far = self.far;
@@ -140,7 +126,7 @@ impl Moved {
     }
 }
 
-// One step, from the bytes: refusals 1 to 5, then 6 to 10, then the step itself.
+// One step, from the bytes: refusals 1 to 5, then 6 to 10, then the step itself. Each check's refusal is passed on as it is.
 pub fn step(
     sheet: &[u8],
     faults: &[u8],
@@ -154,17 +140,29 @@ pub fn step(
 {
     let lists = check_faults(sheet, faults);
     let Checked::Accepted(n, _) = lists else {
-        return refused(lists.number());
+        return refused(lists_number(lists));
     };
-    let call = check_call(n, tag, v, d);
-    let Check::Passed = call else {
-        return refused(call.number());
+    let switches = check_switches(n, v, d);
+    let Check::Passed = switches else {
+        return refused(switches.number());
+    };
+    let long = check_tag(n, tag);
+    let Check::Passed = long else {
+        return refused(long.number());
     };
     let mut places = [0u16; 48];
     let count = port_order(sheet, v, &mut places);
-    let packet = check_packet(sheet, &places[..count], faults, tag, n, v, arrival);
-    let Check::Passed = packet else {
-        return refused(packet.number());
+    let arrived = check_arrival(sheet, &places[..count], faults, arrival);
+    let Check::Passed = arrived else {
+        return refused(arrived.number());
     };
-    advance_tag(sheet, &places[..count], faults, tag, v, arrival, d).answer()
+    let fresh = check_fresh(n, tag, arrival);
+    let Check::Passed = fresh else {
+        return refused(fresh.number());
+    };
+    let known = check_cell(sheet, &places[..count], faults, Cell::read(tag, v));
+    let Check::Passed = known else {
+        return refused(known.number());
+    };
+    advance(sheet, &places[..count], faults, tag, v, arrival, d).answer()
 }

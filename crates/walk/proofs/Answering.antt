@@ -1,28 +1,33 @@
--- The answers of a walk: the refusal of the lists or of a rule is the walk's; and after all rules have passed, a walk in the cleared tag is
--- the walk, for only the bytes beyond those of n switches are kept.
-use Prim.Native.Nat.{ℕ, ◌≤◌}
-use mathlib.Core.Path.{◌≡◌, ap, sym, subst, ◌∙◌}
+-- The answers of a walk, by the check that decides it: the code asks the checks of the definition one by one, so the first that refuses
+-- gives the number; and after all have passed, a walk in the cleared tag is the walk, for only the bytes beyond the first 2n are kept.
+use Prim.Native.Nat.{ℕ, ◌*◌, ◌≤◌}
+use mathlib.Core.Path.{◌≡◌, refl, ap, sym, subst, ◌∙◌}
 use mathlib.Core.List.{List, ◌++◌}
+use mathlib.Core.Bool.{Bool, true, false}
 use native.Mathlib.Omega.{arith}
-use lib.ListN.{length, take, drop, length-append, length-drop}
+use lib.ListN.{length, take, drop, replicate, length-append, length-drop, length-replicate}
 use lib.Seq.{take_at, drop_at}
+use lib.Dec.{leb}
+use borrow.Author.Tests.{leb-true}
 use Rattle.sheet.specs.Cables.{switches_of}
-use Rattle.sheet.specs.Refusals.{answer_of, accepted, refused, refusal_in, list_answer}
-use Rattle.sheet.specs.Refusing.{refusal_of, first_broken}
+use Rattle.sheet.specs.Refusals.{answer_of, accepted, refused, list_answer}
 use Rattle.sheet.specs.declared.check.Checked.{Checked}
 use Rattle.sheet.specs.declared.check.Checked.TheVariants as Checked
-use Rattle.sheet.specs.declared.refusing.Check.{Check}
-use Rattle.sheet.specs.declared.refusing.Check.TheVariants.{Passed, Refused}
-use Rattle.sheet.proofs.FirstBroken.{passed≢refused}
-use Rattle.switch.specs.Tag.{tag_size, blank_tag, cleared}
-use Rattle.switch.proofs.TagBytes.{blank_size, cleared_room}
-use Rattle.walk.specs.Walk.{paper, paper_of, walk_rules, walk_checks, Result, result_of, ended_with}
+use Rattle.switch.specs.Checks.{number_of, rule, switches_rule, tag_rule}
+use Rattle.switch.specs.Step.{lists_number}
+use Rattle.switch.specs.declared.checks.Check.{Check}
+use Rattle.switch.specs.declared.checks.Check.TheVariants.{Passed, Refused}
+use Rattle.walk.specs.Walk.{paper, paper_of, trace_rule, walk_checks, Result, result_of, ended_with}
 use Rattle.walk.specs.Walk.{Walks, turned_away, arrives}
 use Rattle.walk.specs.Condition3.{Reachable, Premises, hops_in, Condition3}
 use Rattle.walk.specs.declared.walk.Walked.{Walked}
-use Rattle.walk.proofs.Checking.{premises_pass, rules_premises, lists_refuse, lists_switches}
+use Rattle.walk.proofs.Checking.{passed≢refused, premises_pass, passed_premises, lists_refuse, lists_switches, lists_few}
 use Rattle.walk.proofs.OneAnswer.{paper_hops}
 use Rattle.walk.proofs.Tender.{walk_keeps}
+
+rule_passed : (number : ℕ) (test : Bool) → rule number test ≡ Passed → test ≡ true
+rule_passed number true e = refl
+rule_passed number false e = absurd (passed≢refused e refl)
 
 module _ (s faults tag trace : List ℕ) (source destination : ℕ) where
   -- both parts of the promise, for an answer and the two buffers afterwards
@@ -48,82 +53,103 @@ module _ (s faults tag trace : List ℕ) (source destination : ℕ) where
       promised w
       (subst (Walks s faults tag trace source destination) (λ i. record { paper = sym answer i; tag = tag; trace = trace }) (turned_away e))
 
-  module _ {lists : Checked} (answer : answer_of lists ≡ list_answer s faults) where
-    pub lists_turn_away : (w : Walked) {k number : ℕ} → lists ≡ Checked.Refused k → number ≡ refusal_in (answer_of lists)
-        → paper_of w ≡ paper 3 0 0 number → Promised w tag trace
-    lists_turn_away w e number =
-        refusal w
-        (lists_refuse s faults tag trace source destination
-        (sym answer ∙ ap answer_of e ∙ ap refused (sym (number ∙ ap (λ c. refusal_in (answer_of c)) e))))
+  -- ---- the check that refuses
 
-    module _ {n cables : ℕ} (accepts : lists ≡ Checked.Accepted n cables) {check : Check}
-        (is : check ≡ first_broken (walk_rules tag trace source destination n cables)) where
+  pub lists_turn_away : (w : Walked) {lists : Checked} {k number : ℕ} → answer_of lists ≡ list_answer s faults → lists ≡ Checked.Refused k
+      → number ≡ lists_number lists → paper_of w ≡ paper 3 0 0 number → Promised w tag trace
+  lists_turn_away w answer e number =
+      refusal w
+      (lists_refuse s faults tag trace source destination (sym answer ∙ ap answer_of e ∙ ap refused (sym (number ∙ ap lists_number e))))
+
+  module _ {lists : Checked} {n cables : ℕ} (answer : answer_of lists ≡ list_answer s faults) (accepts : lists ≡ Checked.Accepted n cables)
+    where
       listed : list_answer s faults ≡ accepted n cables
       listed = sym answer ∙ ap answer_of accepts
 
-      checked : walk_checks s faults tag trace source destination ≡ check
-      unfolding walk_checks
-      checked = rw listed (sym is)
+      pub few : n ≤ 64
+      few = (lists_few s faults listed).0
 
-      pub check-turns-away : (w : Walked) {k number : ℕ} → check ≡ Refused k → number ≡ refusal_of check → paper_of w ≡ paper 3 0 0 number
-          → Promised w tag trace
-      check-turns-away w e number = refusal w (checked ∙ e ∙ ap Refused (sym (number ∙ ap refusal_of e)))
+      module _ {a : Check} (first : a ≡ switches_rule n source destination) where
+        pub switches-turn-away : (w : Walked) {k number : ℕ} → a ≡ Refused k → number ≡ number_of a → paper_of w ≡ paper 3 0 0 number
+            → Promised w tag trace
+        unfolding walk_checks
+        switches-turn-away w e number = refusal w (rw (listed, sym first ∙ e) (ap Refused (sym (number ∙ ap number_of e))))
 
-      -- ---- all have passed
+        module _ (passed : a ≡ Passed) {b : Check} (second : b ≡ tag_rule n tag) where
+          pub tag-turn-away : (w : Walked) {k number : ℕ} → b ≡ Refused k → number ≡ number_of b → paper_of w ≡ paper 3 0 0 number
+              → Promised w tag trace
+          unfolding walk_checks
+          tag-turn-away w e number =
+              refusal w (rw (listed, sym first ∙ passed, sym second ∙ e) (ap Refused (sym (number ∙ ap number_of e))))
 
-      module _ (passed : check ≡ Passed) {clear : List ℕ} (clears : clear ≡ cleared n tag) where
-        premises : Premises s faults tag trace source destination
-        premises = rules_premises s faults tag trace source destination listed (sym is ∙ passed)
+          module _ (passed' : b ≡ Passed) where
+            pub tag_fits : 2 * n ≤ length tag
+            tag_fits = leb-true (2 * n) (length tag) (rule_passed 7 (leb (2 * n) (length tag)) (sym second ∙ passed'))
 
-        abbrev beyond : List ℕ
-        beyond = drop (tag_size (switches_of s)) tag
+            module _ {c : Check} (third : c ≡ trace_rule cables trace) where
+              pub trace-turn-away : (w : Walked) {k number : ℕ} → c ≡ Refused k → number ≡ number_of c → paper_of w ≡ paper 3 0 0 number
+                  → Promised w tag trace
+              unfolding walk_checks
+              trace-turn-away w e number =
+                  refusal w
+                  (rw (listed, sym first ∙ passed, sym second ∙ passed', sym third ∙ e) (ap Refused (sym (number ∙ ap number_of e))))
 
-        room : tag_size (switches_of s) ≤ length tag
-        room = rw (lists_switches s faults premises.lists) at premises.tag_room
+              -- ---- all have passed
 
-        clear-is : clear ≡ blank_tag (switches_of s) ++ beyond
-        clear-is = clears ∙ ap (λ k. cleared k tag) (lists_switches s faults listed) ∙ cleared_room (switches_of s) tag room
+              module _ (passed'' : c ≡ Passed) {cleared : List ℕ} (clear : cleared ≡ replicate (2 * n) 0 ++ drop (2 * n) tag) where
+                all-passed : walk_checks s faults tag trace source destination ≡ Passed
+                unfolding walk_checks
+                all-passed = rw (listed, sym first ∙ passed, sym second ∙ passed', sym third ∙ passed'')
 
-        clear-length : length clear ≡ length tag
-        clear-length =
-            ap length clear-is ∙ simp (length-append, length-drop) (omega (arith, room, blank_size (switches_of s)))
+                premises : Premises s faults tag trace source destination
+                premises = passed_premises s faults tag trace source destination all-passed
 
-        pub ready-to-carry : Premises s faults clear trace source destination
-            × (take (tag_size (switches_of s)) clear ≡ blank_tag (switches_of s))
-        ready-to-carry = (
-          record {
-            n = premises.n;
-            cables = premises.cables;
-            lists = premises.lists;
-            source_on = premises.source_on;
-            destination_on = premises.destination_on;
-            tag_room = omega (arith, premises.tag_room, clear-length);
-            trace_room = premises.trace_room;
-          },
-          ap (take (tag_size (switches_of s))) clear-is
-              ∙ take_at (blank_tag (switches_of s)) beyond (tag_size (switches_of s)) (blank_size (switches_of s)),
-        )
+                zeros : length {A = ℕ} (replicate (2 * switches_of s) 0) ≡ 2 * switches_of s
+                zeros = length-replicate (2 * switches_of s) 0
 
-        walks-cleared : {r : Result} → Walks s faults clear trace source destination r → Walks s faults tag trace source destination r
-        walks-cleared (turned_away e) =
-            absurd (passed≢refused (premises_pass s faults clear trace source destination ready-to-carry.0) e)
-        walks-cleared (arrives {k} e way end) =
-            subst (Walks s faults tag trace source destination) same (arrives (checked ∙ passed) way end)
-          where
-            kept : beyond ≡ drop (tag_size (switches_of s)) clear
-            kept =
-                sym (ap (drop (tag_size (switches_of s))) clear-is
-                ∙ drop_at (blank_tag (switches_of s)) beyond (tag_size (switches_of s)) (blank_size (switches_of s)))
+                cleared-is : cleared ≡ replicate (2 * switches_of s) 0 ++ drop (2 * switches_of s) tag
+                cleared-is = clear ∙ ap (λ k. replicate (2 * k) 0 ++ drop (2 * k) tag) (lists_switches s faults listed)
 
-            same : ended_with s faults tag trace destination k ≡ ended_with s faults clear trace destination k
-            same =
-                (λ i. record {
-                  paper = (ended_with s faults tag trace destination k).paper;
-                  tag = k.tag ++ kept i;
-                  trace = (ended_with s faults tag trace destination k).trace;
-                })
+                cleared-length : length cleared ≡ length tag
+                cleared-length = ap length clear ∙ simp (length-append, length-drop, length-replicate) (omega (arith, tag_fits))
 
-        pub carried-through : (w : Walked) {tag' trace' : List ℕ}
-            → Walks s faults clear trace source destination (result_of w tag' trace')
-            → Promised w tag' trace'
-        carried-through w walks = promised w (walks-cleared walks)
+                pub ready-to-carry : Premises s faults cleared trace source destination
+                    × (take (2 * switches_of s) cleared ≡ replicate (2 * switches_of s) 0)
+                ready-to-carry = (
+                  record {
+                    n = premises.n;
+                    cables = premises.cables;
+                    lists = premises.lists;
+                    source_on = premises.source_on;
+                    destination_on = premises.destination_on;
+                    tag_room = omega (arith, premises.tag_room, cleared-length);
+                    trace_room = premises.trace_room;
+                  },
+                  ap (take (2 * switches_of s)) cleared-is
+                      ∙ take_at (replicate (2 * switches_of s) 0) (drop (2 * switches_of s) tag) (2 * switches_of s) zeros,
+                )
+
+                walks-cleared : {r : Result} → Walks s faults cleared trace source destination r
+                    → Walks s faults tag trace source destination r
+                walks-cleared (turned_away e) =
+                    absurd (passed≢refused (premises_pass s faults cleared trace source destination ready-to-carry.0) e)
+                walks-cleared (arrives {k} e way end) =
+                    subst (Walks s faults tag trace source destination) same (arrives all-passed way end)
+                  where
+                    beyond : drop (2 * switches_of s) tag ≡ drop (2 * switches_of s) cleared
+                    beyond =
+                        sym (ap (drop (2 * switches_of s)) cleared-is
+                        ∙ drop_at (replicate (2 * switches_of s) 0) (drop (2 * switches_of s) tag) (2 * switches_of s) zeros)
+
+                    same : ended_with s faults tag trace destination k ≡ ended_with s faults cleared trace destination k
+                    same =
+                        (λ i. record {
+                          paper = (ended_with s faults tag trace destination k).paper;
+                          tag = k.tag ++ beyond i;
+                          trace = (ended_with s faults tag trace destination k).trace;
+                        })
+
+                pub carried-through : (w : Walked) {tag' trace' : List ℕ}
+                    → Walks s faults cleared trace source destination (result_of w tag' trace')
+                    → Promised w tag' trace'
+                carried-through w walks = promised w (walks-cleared walks)

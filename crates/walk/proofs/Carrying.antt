@@ -11,15 +11,13 @@ use lib.Seq.{drop-cons, set_at}
 use Rattle.sheet.specs.Cables.{rows_of, switches_of}
 use Rattle.sheet.specs.Cabling.{order_at}
 use Rattle.sheet.specs.Sound.{Within, Sound}
-use Rattle.switch.specs.Tag.{tag_size, blank_tag, cell_of, with_cell, CellInside}
-use Rattle.switch.specs.Answers.{move_end, move_port}
+use Rattle.switch.specs.Answers.{move_paper}
 use Rattle.switch.specs.Step.{Ready, told_move, advanced}
 use Rattle.switch.specs.declared.step.Moved.{Moved}
 use Rattle.sheet.specs.declared.numbers.Port.{Port}
 use Rattle.switch.specs.declared.step.Move.{Move}
 use Rattle.switch.specs.declared.step.Move.TheVariants as Move
-use Rattle.switch.proofs.TagBytes.{cell_there, with_same, cell_longer, with_longer}
-use Rattle.switch.proofs.Writing.{advanced_keeps}
+use Rattle.switch.proofs.Advancing.{followed_by, longer_tag, advanced_keeps}
 use Rattle.walk.specs.Network.{Dart}
 use Rattle.walk.specs.Walk.{Packet, step_of, carried, sent, Way, paper, paper_of, trace_bytes, result_of, ended_with, Walks, arrives}
 use Rattle.walk.specs.Condition3.{Premises}
@@ -67,7 +65,7 @@ module _ (s faults tag₀ trace₀ : List ℕ) (source destination : ℕ) where
     pub here : at ≡ packet.at
     pub came : arrival ≡ packet.arrival
     pub count : hops ≡ length packet.trace
-    pub tag_is : tag ≡ packet.tag ++ drop (tag_size (switches_of s)) tag₀
+    pub tag_is : tag ≡ packet.tag ++ drop (2 * switches_of s) tag₀
     pub trace_is : trace ≡ trace_bytes packet.trace ++ drop (2 * hops) trace₀
 
 -- what a hop by this port needs
@@ -79,7 +77,7 @@ pub record HopRoom (s trace : List ℕ) (port hops : ℕ) : Type 0 where
 
 module _ {s faults tag₀ trace₀ : List ℕ} {source destination : ℕ} where
   pub carrying_starts : Premises s faults tag₀ trace₀ source destination
-      → take (tag_size (switches_of s)) tag₀ ≡ blank_tag (switches_of s)
+      → take (2 * switches_of s) tag₀ ≡ replicate (2 * switches_of s) 0
       → Carrying s faults tag₀ trace₀ source destination tag₀ trace₀ source 0 0
   carrying_starts p zeros =
       record {
@@ -89,7 +87,7 @@ module _ {s faults tag₀ trace₀ : List ℕ} {source destination : ℕ} where
         here = refl;
         came = refl;
         count = refl;
-        tag_is = sym (take-append-drop (tag_size (switches_of s)) tag₀) ∙ ap (λ l. l ++ drop (tag_size (switches_of s)) tag₀) zeros;
+        tag_is = sym (take-append-drop (2 * switches_of s) tag₀) ∙ ap (λ l. l ++ drop (2 * switches_of s) tag₀) zeros;
         trace_is = refl;
       }
 
@@ -123,28 +121,21 @@ module _ {s faults tag₀ trace₀ : List ℕ} {source destination : ℕ} where
       pub switch-small : at < 256
       switch-small = omega (arith, c.here, so.on.1, few.0)
 
-      abbrev beyond : List ℕ
-      beyond = drop (tag_size (switches_of s)) tag₀
-
-      -- the packet's cell is inside its tag
-      cell_in : CellInside k.tag k.at
-      cell_in = cell_there so.on (omega (arith, so.long))
-
       pub ready : Ready tag at arrival
       ready =
           record {
-            cell = cell_there (rw c.here so.on) room;
+            cell = record { low = omega (arith, c.here, so.on.0); inside = inside };
             byte = ⊎_elim (λ z. omega (arith, c.came, z)) (λ port. omega (arith, c.came, port.1)) so.came;
           }
         where
-          room : tag_size (switches_of s) ≤ length tag
-          room = rw c.tag_is (simp length-append (omega (arith, so.long)))
+          inside : 2 * at ≤ length tag
+          inside = rw c.tag_is (simp length-append (omega (arith, c.here, so.on.1, so.long)))
 
       pub tag-size : length tag ≡ length tag₀
       tag-size =
           ap length c.tag_is
           ∙ simp (length-append, length-drop)
-          (omega (arith, so.long, rw (lists_switches s faults c.premises.lists) at c.premises.tag_room))
+          (omega (arith, so.long, lists_switches s faults c.premises.lists, c.premises.tag_room))
 
       pub trace-size : length trace ≡ length trace₀
       trace-size =
@@ -154,59 +145,53 @@ module _ {s faults tag₀ trace₀ : List ℕ} {source destination : ℕ} where
 
       -- ---- after the step
 
-      module _ (r : Moved) {tag' : List ℕ} (told : told_move r ≡ advanced (order_at s at) faults (cell_of tag at) at arrival destination)
-          (bytes : tag' ≡ with_cell tag at r.cell) where
-        step_is : told_move r ≡ step_of s faults destination k
+      module _ (r : Moved) {tag' : List ℕ} (told : told_move r tag' ≡ advanced (order_at s at) faults tag at arrival destination) where
+        abbrev beyond : List ℕ
+        beyond = drop (2 * switches_of s) tag₀
+
+        step_is : told_move r tag' ≡ followed_by beyond (step_of s faults destination k)
         step_is =
             told
-            ∙ (λ i. advanced (order_at s (c.here i)) faults (cell_of (c.tag_is i) (c.here i)) (c.here i) (c.came i) destination)
-            ∙ ap (λ found. advanced (order_at s k.at) faults found k.at k.arrival destination)
-            (cell_longer k.tag beyond k.at cell_in)
+            ∙ (λ i. advanced (order_at s (c.here i)) faults (c.tag_is i) (c.here i) (c.came i) destination)
+            ∙ longer_tag (order_at s k.at) faults k.tag k.at k.arrival destination beyond so.on.0
+            (omega (arith, so.on.1, so.long))
 
-        tag-then : tag' ≡ with_cell k.tag k.at (step_of s faults destination k).cell ++ beyond
-        tag-then =
-            bytes
-            ∙ (λ i. with_cell (c.tag_is i) (c.here i) (step_is i).cell)
-            ∙ with_longer k.tag beyond k.at cell_in (step_of s faults destination k).cell
-
-        end_is : {go : Move} → r.go ≡ go → move_end go ≡ (step_of s faults destination k).end
-        end_is goes = sym (ap move_end goes) ∙ ap (λ x. x.end) step_is
+        paper-is : {go : Move} → r.go ≡ go → move_paper go ≡ (step_of s faults destination k).paper
+        paper-is goes = sym (ap move_paper goes) ∙ ap (λ x. x.paper) step_is
 
         -- any step that does not forward ends the walk
-        pub walk_ends : {go : Move} → r.go ≡ go → (move_end go ≡ 0 → ⊥) → (w : Walked)
-            → paper_of w ≡ paper (move_end go) at hops 0 → Walks s faults tag₀ trace₀ source destination (result_of w tag' trace)
+        pub walk_ends : {go : Move} → r.go ≡ go → ((move_paper go).end ≡ 0 → ⊥) → (w : Walked)
+            → paper_of w ≡ paper (move_paper go).end at hops 0 → Walks s faults tag₀ trace₀ source destination (result_of w tag' trace)
         walk_ends {go} goes over w answer =
             subst (Walks s faults tag₀ trace₀ source destination) same
             (arrives (premises_pass s faults tag₀ trace₀ source destination c.premises) c.way end)
           where
-            end : (step_of s faults destination k).end ≡ 0 → ⊥
-            end z = over (end_is goes ∙ z)
+            end : (step_of s faults destination k).paper.end ≡ 0 → ⊥
+            end z = over (ap (λ x. x.end) (paper-is goes) ∙ z)
 
             tag_same : tag' ≡ k.tag ++ beyond
             tag_same =
-                tag-then
-                ∙ ap (λ cell. with_cell k.tag k.at cell ++ beyond)
-                (advanced_keeps (order_at s k.at) faults (cell_of k.tag k.at) k.at k.arrival destination end)
-                ∙ ap (λ l. l ++ beyond) (with_same k.tag k.at)
+                ap (λ x. x.tag) step_is
+                ∙ ap (λ l. l ++ beyond) (advanced_keeps (order_at s k.at) faults k.tag k.at k.arrival destination end)
 
             trace-same : trace ≡ trace_bytes k.trace ++ drop (2 * length k.trace) trace₀
             trace-same = c.trace_is ∙ ap (λ n. trace_bytes k.trace ++ drop (2 * n) trace₀) c.count
 
             paper-same : paper_of w ≡ (ended_with s faults tag₀ trace₀ destination k).paper
-            paper-same = answer ∙ (λ i. paper (end_is goes i) (c.here i) (c.count i) 0)
+            paper-same = answer ∙ (λ i. paper (paper-is goes i).end (c.here i) (c.count i) 0)
 
             same : ended_with s faults tag₀ trace₀ destination k ≡ result_of w tag' trace
             same = sym (λ i. record { paper = paper-same i; tag = tag_same i; trace = trace-same i })
 
         module _ {port : Port} (goes : r.go ≡ Move.Leaves port) where
-          forwarded : (step_of s faults destination k).end ≡ 0
-          forwarded = sym (end_is goes)
+          forwarded : (step_of s faults destination k).paper.end ≡ 0
+          forwarded = sym (ap (λ x. x.end) (paper-is goes))
 
           next : Way s faults destination source (carried s faults destination k)
           next = Way.hop c.way forwarded
 
-          port-is : port.0 ≡ (step_of s faults destination k).port
-          port-is = sym (ap move_port goes) ∙ ap (λ x. x.port) step_is
+          port-is : port.0 ≡ (step_of s faults destination k).paper.port
+          port-is = ap (λ x. x.port) (paper-is goes)
 
           -- one hop more is still no more than twice the cables
           hops_left : hops + 1 ≤ 2 * length (rows_of s)
@@ -232,7 +217,7 @@ module _ {s faults tag₀ trace₀ : List ℕ} {source destination : ℕ} where
                 here = ap (λ x. x.far.switch) step_is;
                 came = ap (λ x. x.far.port) step_is;
                 count = ap (λ n. n + 1) c.count ∙ sym (length-append k.trace (_ ∷ []));
-                tag_is = tag-then;
+                tag_is = ap (λ x. x.tag) step_is;
                 trace_is = trace_is;
               }
             where
@@ -246,4 +231,4 @@ module _ {s faults tag₀ trace₀ : List ℕ} {source destination : ℕ} where
                   ∙ two_written (trace_bytes k.trace) trace₀ (2 * hops) at port.0 written fits
                   ∙ (λ i. (trace_bytes k.trace ++ (c.here i ∷ port-is i ∷ [])) ++ drop (twice i) trace₀)
                   ∙ ap (λ l. l ++ drop (2 * (hops + 1)) trace₀)
-                  (sym (trace_more k.trace (record { switch = k.at; port = (step_of s faults destination k).port })))
+                  (sym (trace_more k.trace (record { switch = k.at; port = (step_of s faults destination k).paper.port })))

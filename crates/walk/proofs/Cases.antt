@@ -11,7 +11,6 @@ use Rattle.sheet.specs.Order.{seen_from, insert, sorted, port_order, position_of
 use Rattle.sheet.specs.Refusals.{Answer, accepted, refused, list_answer}
 use Rattle.sheet.specs.Sound.{Within}
 use Rattle.switch.specs.Choice.{first_open, choose}
-use Rattle.switch.specs.Tag.{tag_size, cell_of, with_cell}
 use Rattle.switch.specs.Step.{advanced}
 use Rattle.walk.specs.Walk.{step_of, turned_away, arrives}
 use Rattle.walk.specs.Cases.{Expected, ends, refuses, Case, Holds, cases}
@@ -22,7 +21,7 @@ use Rattle.walk.proofs.Computing.{last_from, last_ends}
 abbrev on_sheet : Case → Bool → Expected
 on_sheet c true =
     let k = last_from c.sheet c.faults c.destination c.source in
-    ends (step_of c.sheet c.faults c.destination k).end k.at k.trace k.tag
+    ends (step_of c.sheet c.faults c.destination k).paper.end k.at k.trace k.tag
 on_sheet c false = refuses 6
 
 abbrev on_answer : Case → Answer → Expected
@@ -77,5 +76,5 @@ all_told (c ∷ list) e =
 
 pub cases_hold : All (λ c. Holds c c.expected) cases
 unfolding form_of record_at scan wholes sheet_reading rows_of fault_reading faults_of fault_rule row_rule cabled live list_answer
-    port_order sorted insert seen_from position_of choose first_open advanced tag_size cell_of with_cell
+    port_order sorted insert seen_from position_of choose first_open advanced
 cases_hold = all_told cases refl

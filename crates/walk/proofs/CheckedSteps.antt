@@ -1,6 +1,6 @@
 -- The steps of a walk are those of the checked step: refusals 8 to 10 never come in a walk, for what its packets carry names only live
 -- ports that are there, and the tag is all 0 as long as no hop was made.
-use Prim.Native.Nat.{ℕ, zero, suc, ◌≤◌}
+use Prim.Native.Nat.{ℕ, zero, suc, ◌*◌, ◌≤◌}
 use mathlib.Core.Path.{◌≡◌, refl, ap, sym, ◌∙◌}
 use mathlib.Core.List.{List, [], map, reverse}
 use mathlib.Core.Logic.{◌⊎◌, inl, inr}
@@ -16,8 +16,8 @@ use Rattle.sheet.specs.Refusals.{accepted, list_answer}
 use Rattle.sheet.specs.Sound.{Within}
 use Rattle.sheet.proofs.Lists.{map_in}
 use Rattle.sheet.proofs.Cabling.{port_of, in_cabled}
-use Rattle.switch.specs.Tag.{tag_size, blank_tag, cell_of}
-use Rattle.switch.specs.Step.{answered, stepped}
+use Rattle.switch.specs.Cell.{cell_of}
+use Rattle.switch.specs.Step.{stepped}
 use Rattle.switch.proofs.Advancing.{InOrder, checked_step}
 use Rattle.walk.specs.Network.{Live}
 use Rattle.walk.specs.Walk.{Packet, step_of, Way}
@@ -36,7 +36,7 @@ zeros_only (suc n) b (inr m) = zeros_only n b m
 
 -- before the first hop the tag is as it was sent
 untouched : {s faults : List ℕ} {source destination : ℕ} {k : Packet} → Way s faults destination source k → length k.trace ≡ 0
-    → k.tag ≡ blank_tag (switches_of s)
+    → k.tag ≡ replicate (2 * switches_of s) 0
 untouched Way.start none = refl
 untouched (Way.hop {k} way e) none = absurd (omega (arith, simp length-append at none))
 
@@ -61,12 +61,12 @@ module _ (s faults : List ℕ) (source destination : ℕ) {n cables : ℕ} (list
     arrived (inr live) = inr live.1
 
     fresh : ((k.arrival ≡ 0) × (reverse k.trace ≡ [])) ⊎ Live (network_of s faults) (dart k.at k.arrival)
-        → k.arrival ≡ 0 → (b : ℕ) → b ∈ take (tag_size (switches_of s)) k.tag → b ≡ 0
+        → k.arrival ≡ 0 → (b : ℕ) → b ∈ take (2 * switches_of s) k.tag → b ≡ 0
     fresh (inr live) e b m = absurd (lawful.port_not_0 (dart k.at k.arrival) live.0 e)
     fresh (inl host) e b m =
         let none : length k.trace ≡ 0 = sym (length-reverse k.trace) ∙ ap length host.1 in
-        zeros_only (tag_size (switches_of s)) b
-        (rw (take_all (tag_size (switches_of s)) k.tag (omega (arith, so.long)), untouched way none) at m)
+        zeros_only (2 * switches_of s) b
+        (rw (take_all (2 * switches_of s) k.tag (omega (arith, so.long)), untouched way none) at m)
 
     current : ((cell_of k.tag k.at).current.0 ≡ 0) ⊎ (is_cabled (cell_of k.tag k.at).current.0 (order_at s k.at) ≡ true)
     current = by (rw (current_in_lem k.tag k.at low) at (sane.current k.at))
@@ -96,6 +96,5 @@ module _ (s faults : List ℕ) (source destination : ℕ) {n cables : ℕ} (list
           parent = parent;
         }
 
-    pub steps_checked : stepped s faults k.tag k.at k.arrival destination
-        ≡ answered k.tag k.at (step_of s faults destination k)
+    pub steps_checked : stepped s faults k.tag k.at k.arrival destination ≡ step_of s faults destination k
     steps_checked = checked_step s faults k.tag k.at k.arrival destination lists in_order

@@ -1,8 +1,8 @@
 -- The checks of a walk pass exactly under the premises of condition 3; and what the premises say of the sheet's rows.
 use Prim.Native.Nat.{ℕ, ◌*◌, ◌≤◌}
 use mathlib.Core.Path.{◌≡◌, refl}
-use mathlib.Core.List.{List}
-use mathlib.Core.Bool.{false}
+use mathlib.Core.List.{List, [], ◌∷◌}
+use mathlib.Core.Bool.{Bool, true, false}
 use native.Mathlib.Omega.{arith}
 use lib.ListN.{length}
 use lib.Dec.{leb}
@@ -10,21 +10,21 @@ use borrow.Author.Tests.{leb-true, le-leb}
 use Rattle.sheet.specs.Lists.{both}
 use Rattle.sheet.specs.Cables.{rows_of, switches_of, within}
 use Rattle.sheet.specs.Refusals.{Answer, accepted, refused, list_answer}
-use Rattle.sheet.specs.Refusing.{first_broken, after_lists}
 use Rattle.sheet.specs.Sound.{Within, Sound}
 use Rattle.sheet.specs.Accepted.{AcceptedWith}
-use Rattle.sheet.specs.declared.refusing.Check.TheVariants.{Passed, Refused}
 use Rattle.sheet.proofs.Tests.{Decides, decides-×}
 use Rattle.sheet.proofs.Rows.{decides_within}
 use Rattle.sheet.proofs.Accepted.{accepted_of}
 use Rattle.sheet.proofs.Sheet.{rows_of_lem}
 use Rattle.sheet.proofs.Exactly.{both_accepted}
-use Rattle.sheet.proofs.FirstBroken.{passed≢refused, rule_holds, all_passed}
-use Rattle.switch.specs.Tag.{tag_size}
-use Rattle.switch.proofs.Passing.{tag_room}
-use Rattle.switch.proofs.Passing as Step
-use Rattle.walk.specs.Walk.{walk_rules, walk_checks}
+use Rattle.switch.specs.Checks.{rule, first_broken}
+use Rattle.switch.specs.declared.checks.Check.{Check}
+use Rattle.switch.specs.declared.checks.Check.TheVariants.{Passed, Refused}
+use Rattle.walk.specs.Walk.{checks_on, walk_checks}
 use Rattle.walk.specs.Condition3.{Premises}
+
+pub passed≢refused : {check : Check} {number : ℕ} → check ≡ Passed → check ≡ Refused number → ⊥
+passed≢refused p q = let z : ◌≡◌ {A = ℕ} 0 1 = cc in omega arith
 
 pub on_sheet_lem : (source destination n : ℕ)
     → Decides (both (within n source) (within n destination)) (Within n source × Within n destination)
@@ -38,33 +38,38 @@ module _ (s faults tag trace : List ℕ) (source destination : ℕ) where
       rw (
         p.lists,
         (on_sheet_lem source destination p.n).1 (p.source_on, p.destination_on),
-        le-leb (tag_size p.n) (length tag) p.tag_room,
+        le-leb (2 * p.n) (length tag) p.tag_room,
         le-leb (4 * p.cables) (length trace) p.trace_room,
       )
-
-  pub rules_premises : {n cables : ℕ} → list_answer s faults ≡ accepted n cables
-      → first_broken (walk_rules tag trace source destination n cables) ≡ Passed → Premises s faults tag trace source destination
-  rules_premises {n} {cables} lists e =
-      let all = all_passed (walk_rules tag trace source destination n cables) e in
-      let (from, to) = Step.on_sheet_lem n source destination all.0 in
-      record {
-        n = n;
-        cables = cables;
-        lists = lists;
-        source_on = from;
-        destination_on = to;
-        tag_room = tag_room n tag all.1.0;
-        trace_room = leb-true (4 * cables) (length trace) (rule_holds 7 (leb (4 * cables) (length trace)) all.1.1.0);
-      }
 
   pub passed_premises : walk_checks s faults tag trace source destination ≡ Passed → Premises s faults tag trace source destination
   unfolding walk_checks
   passed_premises = by_answer (list_answer s faults) refl
     where
-      by_answer : (answer : Answer) → list_answer s faults ≡ answer
-          → after_lists answer (walk_rules tag trace source destination) ≡ Passed → Premises s faults tag trace source destination
+      by_tests : {n cables : ℕ} → list_answer s faults ≡ accepted n cables → (on long room : Bool)
+          → both (within n source) (within n destination) ≡ on
+          → leb (2 * n) (length tag) ≡ long → leb (4 * cables) (length trace) ≡ room
+          → first_broken (rule 6 on ∷ rule 7 long ∷ rule 7 room ∷ []) ≡ Passed → Premises s faults tag trace source destination
+      by_tests {n} {cables} e true true true on long room h =
+          record {
+            n = n;
+            cables = cables;
+            lists = e;
+            source_on = ((on_sheet_lem source destination n).0 on).0;
+            destination_on = ((on_sheet_lem source destination n).0 on).1;
+            tag_room = leb-true (2 * n) (length tag) long;
+            trace_room = leb-true (4 * cables) (length trace) room;
+          }
+      by_tests e true true false on long room h = absurd (passed≢refused h refl)
+      by_tests e true false c on long room h = absurd (passed≢refused h refl)
+      by_tests e false b c on long room h = absurd (passed≢refused h refl)
+
+      by_answer : (answer : Answer) → list_answer s faults ≡ answer → checks_on answer tag trace source destination ≡ Passed
+          → Premises s faults tag trace source destination
       by_answer (refused number) e h = absurd (passed≢refused h refl)
-      by_answer (accepted n cables) e h = rules_premises e h
+      by_answer (accepted n cables) e h =
+          by_tests e (both (within n source) (within n destination)) (leb (2 * n) (length tag)) (leb (4 * cables) (length trace))
+          refl refl refl h
 
   -- the two refusals that no buffer can change
   pub lists_refuse : {number : ℕ} → list_answer s faults ≡ refused number

@@ -10,8 +10,8 @@ use lib.Dec.{eqb}
 use borrow.Author.Tests.{eqb-true, eqb-false}
 use Rattle.sheet.specs.Cables.{rows_of, switches_of}
 use Rattle.sheet.specs.Sound.{Within, Sound}
-use Rattle.sheet.specs.declared.refusing.Check.{Check}
-use Rattle.sheet.specs.declared.refusing.Check.TheVariants.{Passed, Refused}
+use Rattle.switch.specs.declared.checks.Check.{Check}
+use Rattle.switch.specs.declared.checks.Check.TheVariants.{Passed, Refused}
 use Rattle.walk.specs.Walk.{Packet, step_of, carried, sent, Way, walk_checks, Result, refused_with, ended_with}
 use Rattle.walk.specs.Walk.{Walks, turned_away, arrives}
 use Rattle.walk.specs.Condition3.{network_of}
@@ -25,7 +25,7 @@ module _ (s faults : List ℕ) (destination : ℕ) where
   abbrev pub run : ℕ → Packet → Packet
   run zero k = k
   run (suc fuel) k =
-      elim (eqb (step_of s faults destination k).end 0) [ true ↦ run fuel (carried s faults destination k) | false ↦ k ]
+      elim (eqb (step_of s faults destination k).paper.end 0) [ true ↦ run fuel (carried s faults destination k) | false ↦ k ]
 
   abbrev pub last_from : ℕ → Packet
   last_from source = run (suc (2 * length (rows_of s))) (sent s faults destination source)
@@ -37,25 +37,25 @@ module _ (s faults : List ℕ) (destination : ℕ) where
 
     -- the packet that a walk ends with
     abbrev Last : Packet → Type 0
-    Last k = Way s faults destination source k × ((step_of s faults destination k).end ≡ 0 → ⊥)
+    Last k = Way s faults destination source k × ((step_of s faults destination k).paper.end ≡ 0 → ⊥)
 
     run_last : (fuel : ℕ) (k : Packet) → Way s faults destination source k → 2 * length (rows_of s) < fuel + length k.trace
         → Last (run fuel k)
     run_last zero k way fits = absurd (omega (arith, way_bound way))
     run_last (suc fuel) k way fits =
-        by (eqb (step_of s faults destination k).end 0) refl
+        by (eqb (step_of s faults destination k).paper.end 0) refl
         (λ e more. run_last fuel (carried s faults destination k) (Way.hop way e) more)
       where
-        by : (b : Bool) → eqb (step_of s faults destination k).end 0 ≡ b
-            → ((step_of s faults destination k).end ≡ 0
+        by : (b : Bool) → eqb (step_of s faults destination k).paper.end 0 ≡ b
+            → ((step_of s faults destination k).paper.end ≡ 0
             → 2 * length (rows_of s) < fuel + length (carried s faults destination k).trace
             → Last (run fuel (carried s faults destination k)))
             → Last (elim b [ true ↦ run fuel (carried s faults destination k) | false ↦ k ])
-        by true e further = further (eqb-true (step_of s faults destination k).end 0 e) (simp length-append (omega arith))
-        by false e further = (way, eqb-false (step_of s faults destination k).end 0 e)
+        by true e further = further (eqb-true (step_of s faults destination k).paper.end 0 e) (simp length-append (omega arith))
+        by false e further = (way, eqb-false (step_of s faults destination k).paper.end 0 e)
 
     pub last_ends : Way s faults destination source (last_from source)
-        × ((step_of s faults destination (last_from source)).end ≡ 0 → ⊥)
+        × ((step_of s faults destination (last_from source)).paper.end ≡ 0 → ⊥)
     last_ends = run_last (suc (2 * length (rows_of s))) (sent s faults destination source) Way.start (omega arith)
 
 -- ---- every walk ends: there is a result for all inputs

@@ -7,13 +7,13 @@ use native.Mathlib.Omega.{arith}
 use native.Mathlib.Decide.{ℕ_discrete}
 use native.Mathlib.Numerals.{add-one}
 use lib.ListN.{length, length-append}
-use Rattle.sheet.specs.declared.refusing.Check.TheVariants.{Refused}
+use Rattle.switch.specs.declared.checks.Check.TheVariants.{Refused}
 use Rattle.walk.specs.Walk.{Packet, step_of, carried, sent, Way, Paper, ended, paper_of, Result, result_of, refused_with, ended_with}
 use Rattle.walk.specs.Walk.{Walks, turned_away, arrives}
 use Rattle.walk.specs.declared.walk.End.{End}
 use Rattle.walk.specs.declared.walk.End.TheVariants.{Delivered, None}
 use Rattle.walk.specs.declared.walk.Walked.{Walked}
-use Rattle.sheet.proofs.FirstBroken.{passed≢refused}
+use Rattle.walk.proofs.Checking.{passed≢refused}
 
 module _ (s faults : List ℕ) (destination source : ℕ) where
   -- the packet after so many hops
@@ -22,7 +22,7 @@ module _ (s faults : List ℕ) (destination source : ℕ) where
   after (suc i) = carried s faults destination (after i)
 
   abbrev Forwarded : Packet → Type 0
-  Forwarded k = (step_of s faults destination k).end ≡ 0
+  Forwarded k = (step_of s faults destination k).paper.end ≡ 0
 
   one_more : (k : Packet) → length (carried s faults destination k).trace ≡ suc (length k.trace)
   one_more k = length-append k.trace _ ∙ add-one (length k.trace)
@@ -41,7 +41,7 @@ module _ (s faults : List ℕ) (destination source : ℕ) where
       by (no n) rest = rest (omega (arith, one_more k))
 
   pub one_end : {k k' : Packet} → Way s faults destination source k → Way s faults destination source k'
-      → ((step_of s faults destination k).end ≡ 0 → ⊥) → ((step_of s faults destination k').end ≡ 0 → ⊥) → k ≡ k'
+      → ((step_of s faults destination k).paper.end ≡ 0 → ⊥) → ((step_of s faults destination k').paper.end ≡ 0 → ⊥) → k ≡ k'
   one_end {k} {k'} way way' end end' = by (ℕ_discrete (length k.trace) (length k'.trace))
     where
       not-before : {k k' : Packet} → Way s faults destination source k → Way s faults destination source k' → (Forwarded k → ⊥)

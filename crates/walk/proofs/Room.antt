@@ -9,13 +9,11 @@ use lib.Seq.{take_at, drop_at, drop-append-le}
 use Rattle.sheet.specs.Cables.{rows_of, switches_of}
 use Rattle.sheet.specs.Refusals.{accepted, list_answer}
 use Rattle.sheet.specs.Sound.{Within, Sound}
-use Rattle.sheet.specs.declared.refusing.Check.TheVariants.{Passed}
-use Rattle.sheet.proofs.FirstBroken.{passed≢refused}
-use Rattle.switch.specs.Tag.{tag_size}
+use Rattle.switch.specs.declared.checks.Check.TheVariants.{Passed}
 use Rattle.walk.specs.Network.{Dart}
 use Rattle.walk.specs.Walk.{Packet, Way, walk_checks, trace_bytes, Result, ended_with, Walks, turned_away, arrives}
 use Rattle.walk.specs.Condition3.{Premises}
-use Rattle.walk.proofs.Checking.{premises_pass, passed_premises, lists_switches, lists_cables, lists_sound}
+use Rattle.walk.proofs.Checking.{passed≢refused, premises_pass, passed_premises, lists_switches, lists_cables, lists_sound}
 use Rattle.walk.proofs.Following.{follows}
 use Rattle.walk.proofs.OneAnswer.{one_end}
 use Rattle.walk.proofs.Computing.{way_bound}
@@ -38,8 +36,8 @@ module _ (s faults : List ℕ) (source destination : ℕ) where
   -- ---- the packet that a walk ends with fits into buffers that pass the checks
 
   record Fits (tag trace : List ℕ) (k : Packet) : Type 0 where
-    long : length k.tag ≡ tag_size (switches_of s)
-    tag_room : tag_size (switches_of s) ≤ length tag
+    long : length k.tag ≡ 2 * switches_of s
+    tag_room : 2 * switches_of s ≤ length tag
     trace_room : 2 * length k.trace ≤ length trace
 
   fits : {tag trace : List ℕ} {k : Packet} → walk_checks s faults tag trace source destination ≡ Passed
@@ -101,7 +99,7 @@ module _ (s faults : List ℕ) (source destination : ℕ) where
       same =
           (λ i. record {
             paper = (ended_with s faults tag trace destination k).paper;
-            tag = behind k.tag tag more (tag_size (switches_of s)) f.tag_room i;
+            tag = behind k.tag tag more (2 * switches_of s) f.tag_room i;
             trace = behind (trace_bytes k.trace) trace more' (2 * length k.trace) f.trace_room i;
           })
 
@@ -110,7 +108,7 @@ module _ (s faults : List ℕ) (source destination : ℕ) where
   -- two results with the same answer and the same written bytes
   pub record SameWalk (r r' : Result) : Type 0 where
     pub answer : r.paper ≡ r'.paper
-    pub tag : take (tag_size (switches_of s)) r.tag ≡ take (tag_size (switches_of s)) r'.tag
+    pub tag : take (2 * switches_of s) r.tag ≡ take (2 * switches_of s) r'.tag
     pub trace : take (2 * r.paper.hops) r.trace ≡ take (2 * r'.paper.hops) r'.trace
 
   -- whatever stood in the buffers, and however long they are
@@ -136,7 +134,7 @@ module _ (s faults : List ℕ) (source destination : ℕ) where
       front part rest {n} h = take_at part rest n h
 
   pub record BeyondKept (tag trace : List ℕ) (r : Result) : Type 0 where
-    pub tag_kept : drop (tag_size (switches_of s)) r.tag ≡ drop (tag_size (switches_of s)) tag
+    pub tag_kept : drop (2 * switches_of s) r.tag ≡ drop (2 * switches_of s) tag
     pub trace_kept : drop (2 * r.paper.hops) r.trace ≡ drop (2 * r.paper.hops) trace
 
   -- the bytes beyond are as they came
@@ -144,7 +142,7 @@ module _ (s faults : List ℕ) (source destination : ℕ) where
   beyond_kept (turned_away e) = record { tag_kept = refl; trace_kept = refl }
   beyond_kept {tag} {trace} (arrives {k} e way end) =
       record {
-        tag_kept = drop_at k.tag (drop (tag_size (switches_of s)) tag) (tag_size (switches_of s)) (fits e way).long;
+        tag_kept = drop_at k.tag (drop (2 * switches_of s) tag) (2 * switches_of s) (fits e way).long;
         trace_kept =
             drop_at (trace_bytes k.trace) (drop (2 * length k.trace) trace) (2 * length k.trace) (trace_length k.trace);
       }

@@ -12,9 +12,7 @@ use Rattle.sheet.specs.Cables.{socket_of, rows_of, switches_of}
 use Rattle.sheet.specs.Cabling.{live_at}
 use Rattle.sheet.specs.Sound.{Within, Sound}
 use Rattle.sheet.specs.declared.cables.Cable.{Cable}
-use Rattle.switch.specs.Tag.{cell_of}
-use Rattle.switch.specs.Step.{Advance}
-use Rattle.sheet.proofs.FirstBroken.{passed≢refused}
+use Rattle.switch.specs.Step.{Stepped}
 use Rattle.switch.proofs.Advancing.{Ends, delivers, finds_none, ends}
 use Rattle.walk.specs.Network.{Dart, Live}
 use Rattle.walk.specs.Walk.{Packet, Way, paper, trace_bytes, Result, Walks, turned_away, arrives}
@@ -26,7 +24,7 @@ use Rattle.walk.proofs.Darts.{Due}
 use Rattle.walk.proofs.Sizes.{counts-due}
 use Rattle.walk.proofs.SheetNetwork.{sheet_lawful}
 use Rattle.walk.proofs.Following.{traveller_of, Follows, chosen_at, follows}
-use Rattle.walk.proofs.Checking.{premises_pass, lists_switches, lists_sound}
+use Rattle.walk.proofs.Checking.{passed≢refused, premises_pass, lists_switches, lists_sound}
 use Rattle.walk.proofs.Traversal.{run-once, run-chain, run-live, delivered-reached, delivered-bound, home, none-home, NoneHome}
 use Rattle.walk.proofs.Traversal.{counted_is, counted_one}
 
@@ -61,8 +59,8 @@ module _ (s faults : List ℕ) (source destination : ℕ) (sound : Sound (switch
         (all_of (Live (network_of s faults)) (reverse k.trace)
         (λ e m. (all_at (Due (network_of s faults) source) (reverse k.trace) e (run-live (network_of s faults) lawful so.run) m).0))
 
-    condition_3 : {step : Advance} → Ends (rows_of s) faults (cell_of k.tag k.at) k.at k.arrival destination step
-        → Condition3 s faults source destination m (paper step.end k.at (length k.trace) 0) k.trace
+    condition_3 : {step : Stepped} → Ends (rows_of s) faults k.tag k.at k.arrival destination step
+        → Condition3 s faults source destination m (paper step.paper.end k.at (length k.trace) 0) k.trace
     condition_3 (delivers there) =
         record {
           delivers = (λ e. reached there, λ t. refl);
@@ -126,7 +124,7 @@ module _ (s faults tag trace : List ℕ) (source destination : ℕ) where
     walk_keeps counted (arrives {k} e way end) =
         rw (hops_told k.trace (drop (2 * length k.trace) trace))
         (condition_3 s faults source destination sound on way counted
-        (ends (rows_of s) faults (cell_of k.tag k.at) k.at k.arrival destination sound end))
+        (ends (rows_of s) faults k.tag k.at k.arrival destination sound end))
 
     -- where none is reported, each cable that counts for M was crossed from its one end and from its other
     pub each_cable : {r : Result} → Walks s faults tag trace source destination r → r.paper.end ≡ 2

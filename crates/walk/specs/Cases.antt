@@ -1,7 +1,6 @@
 -- The walks on paper, P1 to P10, as one list of cases.
 use Rattle.std.specs.Prelude.{ℕ, ◌*◌, ◌≤◌, List, [], ◌∷◌, ◌++◌, length, drop, replicate}
 use Rattle.sheet.specs.Cables.{switches_of, rows_of}
-use Rattle.switch.specs.Tag.{tag_size}
 use Rattle.walk.specs.Network.{Dart}
 use Rattle.walk.specs.Walk.{paper, trace_bytes, refused_with, Walks}
 
@@ -22,11 +21,11 @@ abbrev pub Holds : Case → Expected → Type 0
 Holds c (refuses number) =
     (tag trace : List ℕ) → Walks c.sheet c.faults tag trace c.source c.destination (refused_with tag trace number)
 Holds c (ends end switch hops last) =
-    (tag trace : List ℕ) → tag_size (switches_of c.sheet) ≤ length tag → 4 * length (rows_of c.sheet) ≤ length trace
+    (tag trace : List ℕ) → 2 * switches_of c.sheet ≤ length tag → 4 * length (rows_of c.sheet) ≤ length trace
     → Walks c.sheet c.faults tag trace c.source c.destination
     (record {
       paper = paper end switch (length hops) 0;
-      tag = last ++ drop (tag_size (switches_of c.sheet)) tag;
+      tag = last ++ drop (2 * switches_of c.sheet) tag;
       trace = trace_bytes hops ++ drop (2 * length hops) trace;
     })
 

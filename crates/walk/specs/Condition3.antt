@@ -6,7 +6,6 @@ use Rattle.sheet.specs.Cabling.{order_at, far_at, live_at}
 use Rattle.sheet.specs.Refusals.{accepted, list_answer}
 use Rattle.sheet.specs.Sound.{Within}
 use Rattle.sheet.specs.declared.cables.Cable.{Cable}
-use Rattle.switch.specs.Tag.{tag_size}
 use Rattle.walk.specs.Network.{Dart, Network, Live, Reached, Counted, Chain}
 use Rattle.walk.specs.Walk.{Paper}
 
@@ -37,7 +36,7 @@ pub record Premises (s faults tag trace : List ℕ) (source destination : ℕ) :
   pub lists : list_answer s faults ≡ accepted n cables
   pub source_on : Within n source
   pub destination_on : Within n destination
-  pub tag_room : tag_size n ≤ length tag
+  pub tag_room : 2 * n ≤ length tag
   pub trace_room : 4 * cables ≤ length trace
 
 -- the hops that the first bytes of a trace tell

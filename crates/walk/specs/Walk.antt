@@ -1,14 +1,12 @@
 -- The walk: the step repeated, the packet carried over each cable to its far end, until delivered or none.
-use Rattle.std.specs.Prelude.{ℕ, ◌*◌, ◌≡◌, List, [], ◌∷◌, ◌++◌, length, drop, leb}
+use Rattle.std.specs.Prelude.{ℕ, ◌*◌, ◌≡◌, List, [], ◌∷◌, ◌++◌, length, drop, replicate, leb}
 use Rattle.sheet.specs.Cables.{switches_of}
-use Rattle.sheet.specs.Refusals.{list_answer}
-use Rattle.sheet.specs.Refusing.{rule, after_lists}
+use Rattle.sheet.specs.Refusals.{Answer, accepted, refused, list_answer}
 use Rattle.sheet.specs.Cabling.{order_at}
-use Rattle.sheet.specs.declared.refusing.Check.{Check}
-use Rattle.sheet.specs.declared.refusing.Check.TheVariants.{Passed, Refused}
-use Rattle.switch.specs.Tag.{tag_size, blank_tag, cell_of, with_cell}
-use Rattle.switch.specs.Checks.{call_rules}
-use Rattle.switch.specs.Step.{Advance, advanced}
+use Rattle.switch.specs.Checks.{rule, switches_rule, tag_rule, first_broken}
+use Rattle.switch.specs.Step.{Stepped, advanced}
+use Rattle.switch.specs.declared.checks.Check.{Check}
+use Rattle.switch.specs.declared.checks.Check.TheVariants.{Passed, Refused}
 use Rattle.walk.specs.Network.{Dart}
 use Rattle.walk.specs.declared.walk.End.{End}
 use Rattle.walk.specs.declared.walk.End.TheVariants.{Delivered, None}
@@ -23,8 +21,8 @@ pub record Packet : Type 0 where
 
 module _ (s faults : List ℕ) (destination : ℕ) where
   -- the step at the packet's switch
-  abbrev pub step_of : Packet → Advance
-  step_of k = advanced (order_at s k.at) faults (cell_of k.tag k.at) k.at k.arrival destination
+  abbrev pub step_of : Packet → Stepped
+  step_of k = advanced (order_at s k.at) faults k.tag k.at k.arrival destination
 
   -- carried over the cable that the step chose
   abbrev pub carried : Packet → Packet
@@ -32,18 +30,18 @@ module _ (s faults : List ℕ) (destination : ℕ) where
       record {
         at = (step_of k).far.switch;
         arrival = (step_of k).far.port;
-        tag = with_cell k.tag k.at (step_of k).cell;
-        trace = k.trace ++ (record { switch = k.at; port = (step_of k).port } ∷ []);
+        tag = (step_of k).tag;
+        trace = k.trace ++ (record { switch = k.at; port = (step_of k).paper.port } ∷ []);
       }
 
-  -- from the host at the source, with a tag of zeros
+  -- from the host at the source, with 2n zero bytes
   abbrev pub sent : ℕ → Packet
-  sent source = record { at = source; arrival = 0; tag = blank_tag (switches_of s); trace = [] }
+  sent source = record { at = source; arrival = 0; tag = replicate (2 * switches_of s) 0; trace = [] }
 
   -- the packets of a walk: sent, and carried on as long as the step forwards them
   pub data Way (source : ℕ) : Packet → Type 0 where
     start : Way source (sent source)
-    hop : {k : Packet} → Way source k → (step_of k).end ≡ 0 → Way source (carried k)
+    hop : {k : Packet} → Way source k → (step_of k).paper.end ≡ 0 → Way source (carried k)
 
 -- ---- the answer, in the paper's values
 
@@ -71,12 +69,13 @@ paper_of w = ended w.end w.switch.0 w.hops
 abbrev pub trace_rule : ℕ → List ℕ → Check
 trace_rule cables trace = rule 7 (leb (4 * cables) (length trace))
 
--- on a sheet of n switches and so many cables
-abbrev pub walk_rules : List ℕ → List ℕ → ℕ → ℕ → ℕ → ℕ → List Check
-walk_rules tag trace source destination n cables = call_rules tag source destination n ++ (trace_rule cables trace ∷ [])
+abbrev pub checks_on : Answer → List ℕ → List ℕ → ℕ → ℕ → Check
+checks_on (refused number) tag trace source destination = Refused number
+checks_on (accepted n cables) tag trace source destination =
+    first_broken (switches_rule n source destination ∷ tag_rule n tag ∷ trace_rule cables trace ∷ [])
 
 unfoldable pub walk_checks : List ℕ → List ℕ → List ℕ → List ℕ → ℕ → ℕ → Check
-walk_checks s faults tag trace source destination = after_lists (list_answer s faults) (walk_rules tag trace source destination)
+walk_checks s faults tag trace source destination = checks_on (list_answer s faults) tag trace source destination
 
 -- ---- the walk: its answer, and both buffers afterwards
 
@@ -101,8 +100,8 @@ refused_with tag trace number = record { paper = paper 3 0 0 number; tag = tag; 
 abbrev pub ended_with : List ℕ → List ℕ → List ℕ → List ℕ → ℕ → Packet → Result
 ended_with s faults tag trace destination k =
     record {
-      paper = paper (step_of s faults destination k).end k.at (length k.trace) 0;
-      tag = k.tag ++ drop (tag_size (switches_of s)) tag;
+      paper = paper (step_of s faults destination k).paper.end k.at (length k.trace) 0;
+      tag = k.tag ++ drop (2 * switches_of s) tag;
       trace = trace_bytes k.trace ++ drop (2 * length k.trace) trace;
     }
 
@@ -110,5 +109,5 @@ pub data Walks (s faults tag trace : List ℕ) (source destination : ℕ) : Resu
   turned_away : {number : ℕ} → walk_checks s faults tag trace source destination ≡ Refused number
       → Walks s faults tag trace source destination (refused_with tag trace number)
   arrives : {k : Packet} → walk_checks s faults tag trace source destination ≡ Passed → Way s faults destination source k
-      → ((step_of s faults destination k).end ≡ 0 → ⊥)
+      → ((step_of s faults destination k).paper.end ≡ 0 → ⊥)
       → Walks s faults tag trace source destination (ended_with s faults tag trace destination k)

@@ -1,20 +1,16 @@
 // A packet's walk from its source to its end.
-ghost use Rattle.std.specs.Prelude.{◌≡◌, ℕ, take};
+ghost use Rattle.std.specs.Prelude.{◌≡◌, ◌++◌, ℕ, ◌*◌, ◌≤◌, take, drop, replicate};
 ghost use Rattle.sheet.specs.Cables.{switches_of};
 ghost use Rattle.sheet.specs.Cabling.{order_at};
-ghost use Rattle.sheet.specs.Refusing.{first_broken};
-ghost use Rattle.switch.specs.Tag.{tag_size, blank_tag, cell_of, with_cell};
-ghost use Rattle.switch.specs.Step.{Ready, told_move, advanced};
-ghost use Rattle.walk.specs.Walk.{paper, ended, paper_of, trace_rule, walk_rules, result_of, Walks};
+ghost use Rattle.switch.specs.Step.{Ready, lists_number, told_move, advanced};
+ghost use Rattle.walk.specs.Walk.{paper, ended, paper_of, trace_rule, result_of, Walks};
 ghost use Rattle.walk.specs.Condition3.{Reachable, Premises, hops_in, Condition3};
 
 use sheet::check::{Checked, check_faults};
 use sheet::numbers::{Port, Switch};
 use sheet::order::port_order;
-use sheet::refusing::{Check, rule};
-use switch::checks::check_call;
-use switch::step::{Move, Moved, advance_tag};
-use switch::tag::clear;
+use switch::checks::{Check, check_switches, check_tag};
+use switch::step::{Move, Moved, advance};
 
 // How a walk ends.
 #[derive(Drop)]
@@ -50,29 +46,34 @@ fn refused(number: u64) -> Walked
     ended(End::Refused(number), Switch(0), 0)
 }
 
+// The refusal number of sheet and fault list; 0 where both are accepted.
+fn lists_number(lists: Checked) -> u64
+    ensures { result ≡ lists_number lists }
+{
+    match lists {
+        Checked::Accepted(_, _) => 0,
+        Checked::Refused(number) => number,
+    }
+}
+
 // 7: trace shorter than 4 bytes for each cable. A quarter of its length instead of 4 times the cables leaves nothing to wrap.
 fn check_trace(cables: u64, trace: &[u8]) -> Check
     ensures { result ≡ trace_rule cables trace.now }
 {
-    rule(7, cables <= trace.len() as u64 / 4)
+    if cables <= trace.len() as u64 / 4 {
+        return Check::Passed;
+    }
+    Check::Refused(7)
 }
 
-// Rules 6 and 7. Each check's refusal is passed on as it is.
-fn check_walk(
-    n: u64,
-    cables: u64,
-    tag: &[u8],
-    trace: &[u8],
-    source: Switch,
-    destination: Switch,
-) -> Check
-    ensures { result ≡ first_broken (walk_rules tag.now trace.now source.0 destination.0 n cables) }
+// Zeros for the first bytes of the tag.
+fn clear(tag: &mut [u8], size: usize)
+    requires* { do ⌜ size ≤ (← ⟦tag.len()⟧) ⌝ }
+    ensures { tag.new ≡ replicate size 0 ++ drop size tag.old }
 {
-    let call = check_call(n, tag, source, destination);
-    let Check::Passed = call else {
-        return call;
-    };
-    check_trace(cables, trace)
+    for i in 0..size {
+        tag[i] = 0;
+    }
 }
 
 // The step of the switch where the packet is: one pass over the rows for its port order, and the choice.
@@ -85,13 +86,13 @@ fn move_on(
     destination: Switch,
 ) -> Moved
     requires { Ready tag.old at.0 arrival.0 }
-    ensures exact { told_move result ≡ advanced (order_at sheet.now at.0) faults.now
-        (cell_of tag.old at.0) at.0 arrival.0 destination.0 }
-    ensures bytes { tag.new ≡ with_cell tag.old at.0 result.cell }
+    ensures { told_move result tag.new
+        ≡ advanced (order_at sheet.now at.0) faults.now tag.old at.0 arrival.0
+        destination.0 }
 {
     let mut places = [0u16; 48];
     let count = port_order(sheet, at, &mut places);
-    advance_tag(
+    advance(
         sheet,
         &places[..count],
         faults,
@@ -112,7 +113,7 @@ fn carry(
     destination: Switch,
 ) -> Walked
     requires premises { Premises sheet.now faults.now tag.old trace.old source.0 destination.0 }
-    requires tag_value { take (tag_size (switches_of sheet.now)) tag.old ≡ blank_tag (switches_of sheet.now) }
+    requires tag_value { take (2 * switches_of sheet.now) tag.old ≡ replicate (2 * switches_of sheet.now) 0 }
     ensures { Walks sheet.now faults.now tag.old trace.old source.0 destination.0
         (result_of result tag.new trace.new) }
 {
@@ -155,12 +156,20 @@ pub fn walk(
 {
     let lists = check_faults(sheet, faults);
     let Checked::Accepted(n, cables) = lists else {
-        return refused(lists.number());
+        return refused(lists_number(lists));
     };
-    let check = check_walk(n, cables, tag, trace, source, destination);
-    let Check::Passed = check else {
-        return refused(check.number());
+    let switches = check_switches(n, source, destination);
+    let Check::Passed = switches else {
+        return refused(switches.number());
     };
-    clear(tag, n);
+    let long = check_tag(n, tag);
+    let Check::Passed = long else {
+        return refused(long.number());
+    };
+    let room = check_trace(cables, trace);
+    let Check::Passed = room else {
+        return refused(room.number());
+    };
+    clear(tag, 2 * n as usize);
     carry(sheet, faults, tag, trace, source, destination)
 }

@@ -101,8 +101,6 @@ pub answer-file-spec : {M : Type 1} → statement M
 answer-file-spec =
     tie.close
     (tie.spec
-    (λ c κs. search rules)
-    (λ c κs. search rules)
     slice-aggregate-read-file
     read-file-requires
     add-read-file

@@ -1,19 +1,17 @@
 -- The fault list's loop, as the rows' loop: whatever rows the table marks, the faults so far were right and the rest decides.
-use Prim.Native.Nat.{◌≤◌, ◌<◌, ◌-◌}
-use mathlib.Core.Path.{◌≡◌, sym, ap, ◌∙◌}
+use Prim.Native.Nat.{◌≤◌, ◌-◌}
+use mathlib.Core.Path.{sym, ap, ◌∙◌}
 use borrow.Author.Tests.{not-true, not-false}
 use native.Mathlib.Omega.{arith}
 use borrow.Author.Rules.{rules}
 use mathlib.Core.List.{List, []}
 use lib.Arith.{lt_of_le-ne}
-use Rattle.sheet.specs.Lists.{any}
-use Rattle.sheet.specs.Records.{record_at, fault}
-use Rattle.sheet.specs.Faults.{fault_at, names, fault_rule, fault_reading}
+use Rattle.sheet.specs.Records.{fault}
+use Rattle.sheet.specs.Cables.{Socket}
+use Rattle.sheet.specs.Faults.{fault_at, fault_rule, fault_reading}
 use Rattle.sheet.specs.Used.{Marks}
 use Rattle.sheet.specs.Told.{told_of}
 use Rattle.sheet.specs.declared.cables.Cable.{Cable}
-use Rattle.sheet.specs.declared.faults.Fault.{Fault}
-use Rattle.sheet.specs.declared.records.Found.TheVariants.{Record}
 use Rattle.sheet.specs.declared.rules.Rule.TheVariants.{FaultForm}
 use Rattle.sheet.proofs.Scan.{found_is}
 use Rattle.sheet.proofs.Through.{Through, through_start, through_ended, through_kind, through_cut, through_full, through-breaks}
@@ -23,7 +21,7 @@ use Rattle.sheet.proofs.reading.read_faults.Tie as tie
 
 abbrev invariant-loop : tie.invariant-loop
 invariant-loop faults used at₀ named₀ at named = (named ≤ 512) × ((rows : List Cable) → Marks used rows →
-    (before : List Fault) × Through fault FaultForm fault_at (fault_rule rows) faults 0 at named before)
+    (before : List Socket) × Through fault FaultForm fault_at (fault_rule rows) faults 0 at named before)
 
 abbrev decreases-loop : tie.decreases-loop
 decreases-loop faults used at₀ named₀ at named = 512 - named
@@ -78,54 +76,43 @@ returns-4 c = λ rows marks.
     sym (ap told_of (through_full _ _ _ _ _ _ (c.before.before.before.before.before.loop.invariant.1 rows marks).1 (sym
     c.before.before.before.before.record-at.ensures ∙ c.before.before.found.given.1) c.if1.true))
 
-fault-at-requires : tie.Need-fault-at-requires invariant-loop decreases-loop
-fault-at-requires c κs = let e = found_is fault _ _ (sym c.before.before.before.before.record-at.ensures
+is-fault-cabled-requires : tie.Need-is-fault-cabled-requires invariant-loop decreases-loop
+is-fault-cabled-requires c κs = let e = found_is fault _ _ (sym c.before.before.before.before.record-at.ensures
     ∙ c.before.before.found.given.1) in
     e.inside
 
--- after a whole fault: the turn, the record there, and whether it names a cable of the rows
-abbrev head : tie.After-fault-at invariant-loop decreases-loop → tie.At-loop invariant-loop decreases-loop
-head c = c.before.before.before.before.before.before
-
-abbrev start : tie.After-fault-at invariant-loop decreases-loop → tie.Start invariant-loop decreases-loop
-start c = (head c).before.before
-
-whole : (c : tie.After-fault-at invariant-loop decreases-loop)
-    → record_at fault (start c).args.faults.now (head c).loop.at ≡ Record c.before.before.before.found.given.0.0
-whole c = sym c.before.before.before.before.before.record-at.ensures ∙ c.before.before.before.found.given.1
-
-below : (c : tie.After-fault-at invariant-loop decreases-loop) → (head c).loop.named < 512
-below c = lt_of_le-ne (head c).loop.invariant.0 c.before.if1.false
-
-named : (c : tie.After-is-fault-cabled invariant-loop decreases-loop) (rows : List Cable) → Marks (start c.before).args.used.now rows
-    → c.is-fault-cabled.result ≡ any (names (fault_at (start c.before).args.faults.now (head c.before).loop.at)) rows
-named c rows marks = c.is-fault-cabled.ensures rows marks ∙ ap (λ f. any (names f) rows) c.before.fault-at.ensures
-
-sub-t18 : tie.Need-overflow-sub-t18 invariant-loop decreases-loop
-sub-t18 c = let e = found_is fault _ _ (whole c.before.before) in omega arith
+sub-t17 : tie.Need-overflow-sub-t17 invariant-loop decreases-loop
+sub-t17 c = let e = found_is fault _ _ (sym c.before.before.before.before.before.before.record-at.ensures
+    ∙ c.before.before.before.before.found.given.1) in
+    omega arith
 
 returns-5 : tie.Need-returns-5 invariant-loop decreases-loop
 unfolding fault_reading fault_rule
 returns-5 c = λ rows marks.
-    let here = c.before.before in
-    let uncabled = sym (named c.before rows marks) ∙ not-true _ c.if2.true in
-    sym (ap told_of (through-breaks _ _ _ _ _ _ ((head here).loop.invariant.1 rows marks).1 (whole here) (below here) (rw uncabled)))
+    let i = c.before.before.before.before.before.before.before.loop.invariant.1 rows marks in
+    let e = sym c.before.before.before.before.before.before.record-at.ensures
+    ∙ c.before.before.before.before.found.given.1 in
+    let uncabled = sym (c.before.is-fault-cabled.ensures rows marks) ∙ not-true _ c.if2.true in
+    sym (ap told_of (through-breaks _ _ _ _ _ _ i.1 e (lt_of_le-ne i.1.room c.before.before.if1.false) (rw uncabled)))
 
 add-named : tie.Need-overflow-add-named invariant-loop decreases-loop
-add-named c = let h = below c.before.before in omega arith
+add-named c = let i = c.before.before.before.before.before.before.before.loop.invariant.0 in omega arith
 
 loop-less : tie.Need-loop-smaller invariant-loop decreases-loop
-loop-less c = let h = below c.before.before in omega arith
+loop-less c = let i = c.before.before.before.before.before.before.before.loop.invariant.0 in
+    let l = c.before.before.if1.false in omega arith
 
 loop-again : tie.Need-loop-preserved invariant-loop decreases-loop
 unfolding fault_rule
-loop-again c =
-    let here = c.before.before in
-    let h = below here in (
+loop-again c = let i = c.before.before.before.before.before.before.before.loop.invariant in
+    let below = lt_of_le-ne i.0 c.before.before.if1.false in (
       omega arith,
       λ rows marks.
-          let cabled = sym (named c.before rows marks) ∙ not-false _ c.if2.false in
-          (_, through-fine _ _ _ _ _ _ ((head here).loop.invariant.1 rows marks).1 (whole here) h (rw cabled)),
+          let e = sym c.before.before.before.before.before.before.record-at.ensures
+          ∙ c.before.before.before.before.found.given.1 in
+          let cabled = sym (c.before.is-fault-cabled.ensures rows marks) ∙ not-false _ c.if2.false in
+          let so_far = i.1 rows marks in
+          (_, through-fine _ _ _ _ _ _ so_far.1 e below (rw cabled)),
     )
 
 pub read-faults-spec : {M : Type 1} → statement M
@@ -146,9 +133,8 @@ read-faults-spec =
     enum-known-found
     sub-t14
     returns-4
-    fault-at-requires
-    (λ c κs. search rules)
-    sub-t18
+    is-fault-cabled-requires
+    sub-t17
     returns-5
     add-named
     loop-less

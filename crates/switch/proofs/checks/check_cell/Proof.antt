@@ -1,7 +1,7 @@
 -- Rule 10 of its test.
 use mathlib.Core.Path.{ap, ◌∙◌}
 use borrow.Author.Rules.{rules}
-use Rattle.sheet.specs.Refusing.{rule}
+use Rattle.switch.specs.Checks.{rule}
 use Rattle.switch.proofs.checks.check_cell.Statement.{statement}
 use Rattle.switch.proofs.checks.check_cell.Tie as tie
 

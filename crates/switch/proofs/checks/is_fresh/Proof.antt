@@ -4,6 +4,9 @@ use borrow.Author.Rules.{rules}
 use Rattle.switch.proofs.checks.is_fresh.Statement.{statement}
 use Rattle.switch.proofs.checks.is_fresh.Tie as tie
 
+mul-is-blank : tie.Need-overflow-mul-is-blank
+mul-is-blank c = search rules
+
 is-blank-requires : tie.Need-is-blank-requires
 is-blank-requires c κs = search rules
 
@@ -14,4 +17,4 @@ returns-2 : tie.Need-returns-2
 returns-2 c = rw (ne_eqb _ 0 c.if1.false)
 
 pub is-fresh-spec : {M : Type 1} → statement M
-is-fresh-spec = tie.close (tie.spec is-blank-requires returns returns-2)
+is-fresh-spec = tie.close (tie.spec mul-is-blank is-blank-requires returns returns-2)

@@ -38,7 +38,7 @@ returns c =
       rw port
           (open_found a.sheet.now a.order.now turn.before.loop.invariant turn.loop-test.true read.cable.ensures
           (sym c.before.before.is_open.ensures ∙ c.before.if1.true)),
-      λ small. c.near-port.ensures.1,
+      c.near-port.ensures.1,
     )
 
 add-i : tie.Need-overflow-add-i invariant-loop decreases-loop
@@ -60,10 +60,11 @@ by-parent-requires c κs = search rules
 
 returns-2 : tie.Need-returns-2 invariant-loop decreases-loop
 returns-2 c =
-    let a = c.before.before.before.before.before.before.before.args in (
+    let start = c.before.before.before.before.before.before.before in
+    let a = start.args in (
       c.by-parent.ensures
           ∙ open_none a.sheet.now a.order.now c.before.before.loop.invariant c.before.loop-test.false,
-      by_parent_storable c.by-parent.result a.cell.parent.0 a.cell.current.0 c.by-parent.ensures,
+      by_parent_storable c.by-parent.result a.cell.parent.0 a.cell.current.0 c.by-parent.ensures start.requires,
     )
 
 pub first-open-spec : {M : Type 1} → statement M

@@ -1,4 +1,4 @@
--- Each end has its weight, and a number below it leaves room.
+-- Each end has its weight, and a number of at most 10 leaves room.
 use native.Mathlib.Omega.{arith}
 use borrow.Author.Rules.{rules}
 use Rattle.switch.proofs.door.number_of.Statement.{statement}

@@ -1,8 +1,8 @@
--- The step of the same bytes and numbers, its answer as one number; its refusal number leaves room for the end.
+-- The step of the same bytes and numbers, its answer as one number; its refusal number is at most 10.
 use mathlib.Core.Path.{ap, ◌∙◌}
 use borrow.Author.Rules.{rules}
 use Rattle.switch.specs.Answers.{door_number}
-use Rattle.switch.proofs.Exactly.{number_fits}
+use Rattle.switch.proofs.Exactly.{number_within}
 use Rattle.switch.proofs.door.switch_step.Statement.{statement}
 use Rattle.switch.proofs.door.switch_step.Tie as tie
 
@@ -13,7 +13,7 @@ number-of-requires : tie.Need-number-of-requires
 number-of-requires c κs =
     let a = c.before.before.before.before.before.before.before.args in
     rw (ap (λ r. r.paper.number) c.before.before.step.ensures)
-    (number_fits a.sheet.now a.faults.now a.tag.now a.present a.arrival a.destination)
+    (number_within a.sheet.now a.faults.now a.tag.now a.present a.arrival a.destination)
 
 same_length : tie.Need-same-length
 same_length c = search rules

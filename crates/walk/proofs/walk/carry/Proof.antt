@@ -39,7 +39,7 @@ room : (c : lts.After-go
     p.before.before.loop.trace c.go.given.0.0.0 p.before.before.loop.hops
 room c =
     let p = c.before.before.before.before in
-    hop-room p.before.before.loop.invariant p.move-on.result p.move-on.ensures.0 p.move-on.ensures.1
+    hop-room p.before.before.loop.invariant p.move-on.result p.move-on.ensures
     c.go.given.1
 
 loop-holds : tie.Need-loop-init invariant-loop decreases-loop
@@ -68,7 +68,7 @@ same-length-2 c = trace-size c.before.before.before.before.before.before.before.
 returns : tie.Need-returns invariant-loop decreases-loop
 returns c =
     let p = c.before.before.before.before.before in
-    walk_ends p.before.before.loop.invariant p.move-on.result p.move-on.ensures.0 p.move-on.ensures.1
+    walk_ends p.before.before.loop.invariant p.move-on.result p.move-on.ensures
     c.before.enum_told.given.1 (λ z. omega arith) c.ended.result c.ended.ensures
 
 enum-told-2 : tie.Need-enum-told-2 invariant-loop decreases-loop
@@ -88,7 +88,7 @@ same-length-4 c = trace-size c.before.before.before.before.before.before.before.
 returns-2 : tie.Need-returns-2 invariant-loop decreases-loop
 returns-2 c =
     let p = c.before.before.before.before.before in
-    walk_ends p.before.before.loop.invariant p.move-on.result p.move-on.ensures.0 p.move-on.ensures.1
+    walk_ends p.before.before.loop.invariant p.move-on.result p.move-on.ensures
     c.before.enum-told2.given.1 (λ z. omega arith) c.ended2.result c.ended2.ensures
 
 cast-trace : tie.Need-overflow-cast-trace invariant-loop decreases-loop
@@ -123,7 +123,7 @@ loop-again : tie.Need-loop-preserved invariant-loop decreases-loop
 loop-again c =
     let go = c.before.before.before.before.before.before in
     let p = go.before.before.before.before in
-    carrying-on p.before.before.loop.invariant p.move-on.result p.move-on.ensures.0 p.move-on.ensures.1
+    carrying-on p.before.before.loop.invariant p.move-on.result p.move-on.ensures
     go.go.given.1
 
 pub carry-spec : {M : Type 1} → statement M

@@ -1,102 +1,224 @@
--- The lists, then the rules, then the walk in the cleared tag, each with what its function promises (Answering.antt).
-use Prim.Native.Nat.{ℕ}
-use mathlib.Core.List.{List}
+-- Each check of the code is the check of the definition, and the answer is that of the first that refuses (Answering.antt).
+use native.Mathlib.Omega.{arith}
 use borrow.Author.Rules.{rules}
-use Rattle.walk.proofs.Answering.{lists_turn_away, check-turns-away, ready-to-carry, carried-through}
+use Rattle.walk.proofs.Answering.{
+  lists_turn_away,
+  switches-turn-away,
+  tag-turn-away,
+  trace-turn-away,
+  few,
+  tag_fits,
+  ready-to-carry,
+  carried-through,
+}
 use Rattle.walk.proofs.walk.walk.Statement.{statement}
 use Rattle.walk.proofs.walk.walk.Tie as tie
 
--- ---- the call
+check-faults-requires : tie.Need-check-faults-requires
+check-faults-requires c κs = search rules
 
-module _ (c : tie.Start) where
-  abbrev sheet : List ℕ
-  sheet = c.args.sheet.now
+enum-known-lists : tie.Need-enum-known-lists
+enum-known-lists c = search rules
 
-  abbrev faults : List ℕ
-  faults = c.args.faults.now
+enum_told : tie.Need-enum-told
+enum_told c = search rules
 
-  abbrev tag : List ℕ
-  tag = c.args.tag.now
+lists-number-requires : tie.Need-lists-number-requires
+lists-number-requires c κs = search rules
 
-  abbrev trace : List ℕ
-  trace = c.args.trace.now
-
-  abbrev source : ℕ
-  source = c.args.source.0
-
-  abbrev destination : ℕ
-  destination = c.args.destination.0
-
--- ---- where the lists have answered, where the rules have, and where the tag is cleared
-
-abbrev start : tie.After-check-faults → tie.Start
-start c = c.before.before.before.before.before
-
-abbrev accepted : tie.After-check-walk → tie.After-lists
-accepted c = c.before.before.before.before
-
-abbrev lists : tie.After-check-walk → tie.After-check-faults
-lists c = (accepted c).before.before
-
-abbrev passed : tie.After-clear → tie.After-enum-told2
-passed c = c.before.before
-
-abbrev rules : tie.After-clear → tie.After-check-walk
-rules c = (passed c).before.before
+refused-requires : tie.Need-refused-requires
+refused-requires c κs = search rules
 
 returns : tie.Need-returns
 returns c =
-    let here = c.before.before.before.before in
-    let a = start here in
-    lists_turn_away (sheet a) (faults a) (tag a) (trace a) (source a) (destination a) here.check-faults.ensures c.refused.result
-    c.before.before.enum_told.given.1 c.before.number.ensures c.refused.ensures
+    let lists = c.before.before.before.before in
+    let a = lists.before.before.before.before.before.args in
+    lists_turn_away a.sheet.now a.faults.now a.tag.now a.trace.now a.source.0 a.destination.0
+    c.refused.result lists.check-faults.ensures c.before.before.enum_told.given.1 c.before.lists-number.ensures
+    c.refused.ensures
+
+check-switches-requires : tie.Need-check-switches-requires
+check-switches-requires c κs = search rules
+
+enum-told-2 : tie.Need-enum-told-2
+enum-told-2 c = search rules
+
+enum-told-3 : tie.Need-enum-told-3
+enum-told-3 c = search rules
+
+number-requires : tie.Need-number-requires
+number-requires c κs = search rules
+
+refused-requires-2 : tie.Need-refused-requires-2
+refused-requires-2 c κs = search rules
 
 returns-2 : tie.Need-returns-2
 returns-2 c =
-    let here = c.before.before.before.before in
-    let a = start (lists here) in
-    check-turns-away (sheet a) (faults a) (tag a) (trace a) (source a) (destination a) (lists here).check-faults.ensures
-    (accepted here).lists.given.1 here.check-walk.ensures c.refused2.result c.before.before.enum-told3.given.1
-    c.before.number2.ensures c.refused2.ensures
+    let switches = c.before.before.before.before in
+    let lists = switches.before.before.before.before in
+    let a = lists.before.before.before.before.before.args in
+    switches-turn-away a.sheet.now a.faults.now a.tag.now a.trace.now a.source.0 a.destination.0
+    lists.check-faults.ensures switches.before.before.lists.given.1 switches.check-switches.ensures
+    c.refused2.result c.before.before.enum-told3.given.1 c.before.number.ensures c.refused2.ensures
+
+check-tag-requires : tie.Need-check-tag-requires
+check-tag-requires c κs = search rules
+
+enum-told-4 : tie.Need-enum-told-4
+enum-told-4 c = search rules
+
+enum-told-5 : tie.Need-enum-told-5
+enum-told-5 c = search rules
+
+number-requires-2 : tie.Need-number-requires-2
+number-requires-2 c κs = search rules
+
+refused-requires-3 : tie.Need-refused-requires-3
+refused-requires-3 c κs = search rules
+
+same_length : tie.Need-same-length
+same_length c = search rules
+
+returns-3 : tie.Need-returns-3
+returns-3 c =
+    let tag = c.before.before.before.before in
+    let switches = tag.before.before.before.before in
+    let lists = switches.before.before.before.before in
+    let a = lists.before.before.before.before.before.args in
+    tag-turn-away a.sheet.now a.faults.now a.tag.now a.trace.now a.source.0 a.destination.0
+    lists.check-faults.ensures switches.before.before.lists.given.1 switches.check-switches.ensures
+    tag.before.before.enum-told2.given.1 tag.check-tag.ensures
+    c.refused3.result c.before.before.enum-told5.given.1 c.before.number2.ensures c.refused3.ensures
+
+check-trace-requires : tie.Need-check-trace-requires
+check-trace-requires c κs = search rules
+
+enum-told-6 : tie.Need-enum-told-6
+enum-told-6 c = search rules
+
+enum-told-7 : tie.Need-enum-told-7
+enum-told-7 c = search rules
+
+number-requires-3 : tie.Need-number-requires-3
+number-requires-3 c κs = search rules
+
+refused-requires-4 : tie.Need-refused-requires-4
+refused-requires-4 c κs = search rules
+
+same-length-2 : tie.Need-same-length-2
+same-length-2 c = search rules
+
+same-length-3 : tie.Need-same-length-3
+same-length-3 c = search rules
+
+returns-4 : tie.Need-returns-4
+returns-4 c =
+    let trace = c.before.before.before.before in
+    let tag = trace.before.before.before.before in
+    let switches = tag.before.before.before.before in
+    let lists = switches.before.before.before.before in
+    let a = lists.before.before.before.before.before.args in
+    trace-turn-away a.sheet.now a.faults.now a.tag.now a.trace.now a.source.0 a.destination.0
+    lists.check-faults.ensures switches.before.before.lists.given.1 switches.check-switches.ensures
+    tag.before.before.enum-told2.given.1 tag.check-tag.ensures
+    trace.before.before.enum-told4.given.1 trace.check-trace.ensures
+    c.refused4.result c.before.before.enum-told7.given.1 c.before.number3.ensures c.refused4.ensures
+
+mul-clear : tie.Need-overflow-mul-clear
+mul-clear c =
+    let trace = c.before.before.before in
+    let tag = trace.before.before.before.before in
+    let switches = tag.before.before.before.before in
+    let lists = switches.before.before.before.before in
+    let a = lists.before.before.before.before.before.args in
+    let small = few a.sheet.now a.faults.now a.tag.now a.trace.now a.source.0 a.destination.0
+    lists.check-faults.ensures
+    switches.before.before.lists.given.1 in
+    record { fits = omega arith }
+
+clear-requires : tie.Need-clear-requires
+clear-requires c κs =
+    let trace = c.before.before.before in
+    let tag = trace.before.before.before.before in
+    let switches = tag.before.before.before.before in
+    let lists = switches.before.before.before.before in
+    let a = lists.before.before.before.before.before.args in
+    let fits =
+    tag_fits a.sheet.now a.faults.now a.tag.now a.trace.now a.source.0 a.destination.0
+    lists.check-faults.ensures switches.before.before.lists.given.1 switches.check-switches.ensures
+    tag.before.before.enum-told2.given.1 tag.check-tag.ensures
+    trace.before.before.enum-told4.given.1 in
+    omega arith
 
 carry-requires : tie.Need-carry-requires
 carry-requires c κs =
     let clear = c.before.before.before.before in
-    let here = rules clear in
-    let a = start (lists here) in
-    ready-to-carry (sheet a) (faults a) (tag a) (trace a) (source a) (destination a) (lists here).check-faults.ensures
-    (accepted here).lists.given.1 here.check-walk.ensures (passed clear).enum-told2.given.1 clear.clear.ensures
+    let trace = clear.before.before.before.before in
+    let tag = trace.before.before.before.before in
+    let switches = tag.before.before.before.before in
+    let lists = switches.before.before.before.before in
+    let a = lists.before.before.before.before.before.args in
+    ready-to-carry a.sheet.now a.faults.now a.tag.now a.trace.now a.source.0 a.destination.0
+    lists.check-faults.ensures switches.before.before.lists.given.1 switches.check-switches.ensures
+    tag.before.before.enum-told2.given.1 tag.check-tag.ensures
+    trace.before.before.enum-told4.given.1 trace.check-trace.ensures
+    clear.before.before.enum-told6.given.1 clear.clear.ensures
 
-returns-3 : tie.Need-returns-3
-returns-3 c =
+same-length-4 : tie.Need-same-length-4
+same-length-4 c = search rules
+
+same-length-5 : tie.Need-same-length-5
+same-length-5 c = search rules
+
+returns-5 : tie.Need-returns-5
+returns-5 c =
     let carry = c.before.before.before.before in
     let clear = carry.before.before.before.before.before in
-    let here = rules clear in
-    let a = start (lists here) in
-    carried-through (sheet a) (faults a) (tag a) (trace a) (source a) (destination a) (lists here).check-faults.ensures
-    (accepted here).lists.given.1 here.check-walk.ensures (passed clear).enum-told2.given.1 clear.clear.ensures
-    carry.carry.result carry.carry.ensures
+    let trace = clear.before.before.before.before in
+    let tag = trace.before.before.before.before in
+    let switches = tag.before.before.before.before in
+    let lists = switches.before.before.before.before in
+    let a = lists.before.before.before.before.before.args in
+    carried-through a.sheet.now a.faults.now a.tag.now a.trace.now a.source.0 a.destination.0
+    lists.check-faults.ensures switches.before.before.lists.given.1 switches.check-switches.ensures
+    tag.before.before.enum-told2.given.1 tag.check-tag.ensures
+    trace.before.before.enum-told4.given.1 trace.check-trace.ensures
+    clear.before.before.enum-told6.given.1 clear.clear.ensures carry.carry.result carry.carry.ensures
 
 pub walk-spec : {M : Type 1} → statement M
 walk-spec =
     tie.close
     (tie.spec
-    (λ c κs. search rules)
-    (λ c. search rules)
-    (λ c. search rules)
-    (λ c κs. search rules)
-    (λ c κs. search rules)
+    check-faults-requires
+    enum-known-lists
+    enum_told
+    lists-number-requires
+    refused-requires
     returns
-    (λ c κs. search rules)
-    (λ c. search rules)
-    (λ c. search rules)
-    (λ c κs. search rules)
-    (λ c κs. search rules)
-    (λ c. search rules)
-    (λ c. search rules)
+    check-switches-requires
+    enum-told-2
+    enum-told-3
+    number-requires
+    refused-requires-2
     returns-2
-    (λ c κs. search rules)
+    check-tag-requires
+    enum-told-4
+    enum-told-5
+    number-requires-2
+    refused-requires-3
+    same_length
+    returns-3
+    check-trace-requires
+    enum-told-6
+    enum-told-7
+    number-requires-3
+    refused-requires-4
+    same-length-2
+    same-length-3
+    returns-4
+    mul-clear
+    clear-requires
     carry-requires
-    (λ c. search rules)
-    (λ c. search rules)
-    returns-3)
+    same-length-4
+    same-length-5
+    returns-5)

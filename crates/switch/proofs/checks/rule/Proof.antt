@@ -1,7 +1,7 @@
 -- A test that fails gives the number.
 use borrow.Author.Rules.{rules}
-use Rattle.sheet.proofs.refusing.rule.Statement.{statement}
-use Rattle.sheet.proofs.refusing.rule.Tie as tie
+use Rattle.switch.proofs.checks.rule.Statement.{statement}
+use Rattle.switch.proofs.checks.rule.Tie as tie
 
 returns : tie.Need-returns
 returns c = search rules

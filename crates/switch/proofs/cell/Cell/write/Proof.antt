@@ -2,40 +2,46 @@
 use native.Mathlib.Omega.{arith}
 use lib.ListN.{length-set}
 use borrow.Author.Rules.{rules}
-use Rattle.switch.specs.Tag.{tag_size, with_cell}
-use Rattle.switch.proofs.tag.write_cell.Statement.{statement}
-use Rattle.switch.proofs.tag.write_cell.Tie as tie
+use Rattle.switch.proofs.cell.Cell.write.Statement.{statement}
+use Rattle.switch.proofs.cell.Cell.write.Tie as tie
+
+sub-first : tie.Need-overflow-sub-first
+sub-first c = search rules
 
 mul-first : tie.Need-overflow-mul-first
-unfolding tag_size
 mul-first c = search rules
 
+cast-tag : tie.Need-overflow-cast-tag
+cast-tag c = search rules
+
 slice-write-tag : tie.Need-slice-write-tag
-unfolding tag_size
 slice-write-tag c = search rules
 
+cast-tag-2 : tie.Need-overflow-cast-tag-2
+cast-tag-2 c = search rules
+
 add-tag : tie.Need-overflow-add-tag
-unfolding tag_size
 add-tag c = search rules
 
 slice-write-tag-2 : tie.Need-slice-write-tag-2
-unfolding tag_size
 slice-write-tag-2 c = simp length-set (omega arith)
 
+same_length : tie.Need-same-length
+same_length c = search rules
+
 returns : tie.Need-returns
-unfolding with_cell
 returns c = search rules
 
-pub write-cell-spec : {M : Type 1} → statement M
-write-cell-spec =
+pub write_spec : {M : Type 1} → statement M
+write_spec =
     tie.close
     (tie.spec
-    (λ c. search rules)
+    sub-first
     mul-first
-    (λ c. search rules)
+    cast-tag
     slice-write-tag
-    (λ c. search rules)
+    cast-tag-2
     add-tag
     slice-write-tag-2
-    (λ c. search rules)
+    same_length
     returns)

@@ -3,44 +3,41 @@ use Prim.Native.Nat.{◌+◌, ◌-◌, ◌*◌}
 use mathlib.Core.Path.{refl}
 use native.Mathlib.Omega.{arith}
 use borrow.Author.Rules.{rules}
-use Rattle.switch.specs.Tag.{tag_size, cell_of}
-use Rattle.switch.proofs.tag.read_cell.Statement.{statement}
-use Rattle.switch.proofs.tag.read_cell.Tie as tie
+use Rattle.switch.proofs.cell.Cell.read.Statement.{statement}
+use Rattle.switch.proofs.cell.Cell.read.Tie as tie
+
+sub-first : tie.Need-overflow-sub-first
+sub-first c = search rules
 
 mul-first : tie.Need-overflow-mul-first
-unfolding tag_size
 mul-first c = search rules
 
 shared-slice-read-t7 : tie.Need-shared-slice-read-t7
-unfolding tag_size
 shared-slice-read-t7 c = search rules
 
 cast-t8 : tie.Need-overflow-cast-t8
 cast-t8 c = omega (arith, c.shared-slice-known.given (2 * (c.before.args.v.0 - 1)))
 
 add-t4 : tie.Need-overflow-add-t4
-unfolding tag_size
 add-t4 c = search rules
 
 shared-slice-read-t11 : tie.Need-shared-slice-read-t11
-unfolding tag_size
 shared-slice-read-t11 c = search rules
 
 cast-t12 : tie.Need-overflow-cast-t12
 cast-t12 c = omega (arith, c.shared-slice-known2.given (2 * (c.before.before.args.v.0 - 1) + 1))
 
 returns : tie.Need-returns
-unfolding cell_of
 returns c =
     let first = 2 * (c.before.before.args.v.0 - 1) in
     let bytes = c.shared-slice-known2.given in
     (refl, record { parent = omega (arith, bytes first); current = omega (arith, bytes (first + 1)) })
 
-pub read-cell-spec : {M : Type 1} → statement M
-read-cell-spec =
+pub read_spec : {M : Type 1} → statement M
+read_spec =
     tie.close
     (tie.spec
-    (λ c. search rules)
+    sub-first
     mul-first
     shared-slice-read-t7
     cast-t8
