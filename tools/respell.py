@@ -15,7 +15,7 @@ import re
 import sys
 
 TOKEN = re.compile(r"(?<![\w'.·-])[^\W\d][\w'-]*|(?<=\.)[^\W\d][\w'-]*")
-STATED = re.compile(r"^ {0,4}(?:abbrev |unfoldable )?(?:pub )?([a-z][\w'-]*(?: [a-z][\w'-]*)*) :(?= |$)")
+STATED = re.compile(r"^ *(?:abbrev |unfoldable )?(?:pub )?([a-z][\w'-]*(?: [a-z][\w'-]*)*) :(?= |$)")
 USED = re.compile(r"^(?:pub )?use ([\w.'-]+)\.\{([^}]*)\}")
 GHOST = re.compile(r"^(\s*)(ghost use|requires|ensures|ghost )")
 

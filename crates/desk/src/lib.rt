@@ -1,5 +1,7 @@
 // The program's dealings with the operating system: files in, lines out. Nothing here decides what is printed but that a file is missing;
 // the asks and the line for each are the crate `lines`'s.
+#![tactic(auto)]
+
 ghost use Rattle.std.specs.Prelude.{◌≤◌};
 ghost use Rattle.io.specs.Counts.{IsPrefixLen};
 ghost use Rattle.desk.specs.Filled.{Within};

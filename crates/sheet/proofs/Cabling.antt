@@ -150,11 +150,11 @@ module _ {n : ℕ} {rows : List Cable} (sound : Sound n rows) where
   -- at one switch the port tells the socket, and no socket carries two cable ends
   seen_ports : (v : ℕ) → Once (map port_of (seen_from v rows))
   seen_ports v =
-      once_finer socket_at port_of (seen_from v rows) same-socket
+      once_finer socket_at port_of (seen_from v rows) same_socket
       (rw seen_both (once_those (begins_at v) socket_at (both_ways rows) (rw sockets_both at sound.once)))
     where
-      same-socket : (c d : Cable) → c ∈ seen_from v rows → d ∈ seen_from v rows → port_of c ≡ port_of d → socket_at c ≡ socket_at d
-      same-socket c d at there e =
+      same_socket : (c d : Cable) → c ∈ seen_from v rows → d ∈ seen_from v rows → port_of c ≡ port_of d → socket_at c ≡ socket_at d
+      same_socket c d at there e =
           let switch : c.near.switch ≡ d.near.switch = ((seen_from_lem rows v c).0 at).here ∙ sym ((seen_from_lem rows v d).0 there).here in
           (λ i. record { switch = switch i; port = e i })
 
@@ -171,13 +171,13 @@ module _ {n : ℕ} {rows : List Cable} (sound : Sound n rows) where
   -- different ports from 1 to 48: the order has at most 48 cables, and the cut takes none
   uncut : (v : ℕ) → port_order rows v ≡ sorted [] (seen_from v rows)
   unfolding port_order
-  uncut v = take_all 48 cables (rw length-map at (once_within 48 (map port_of cables) (sorted_ports v) in-range))
+  uncut v = take_all 48 cables (rw length-map at (once_within 48 (map port_of cables) (sorted_ports v) in_range))
     where
       cables : List Cable
       cables = sorted [] (seen_from v rows)
 
-      in-range : (p : ℕ) → p ∈ map port_of cables → Within 48 p
-      in-range p at = let (c, there, e) = map_in port_of cables p at in rw e (seen_range v c (((sorted_order v).holds c).0 there)).near.1
+      in_range : (p : ℕ) → p ∈ map port_of cables → Within 48 p
+      in_range p at = let (c, there, e) = map_in port_of cables p at in rw e (seen_range v c (((sorted_order v).holds c).0 there)).near.1
 
   pub port_order_lem : (v : ℕ) → PortOrder rows v (port_order rows v)
   port_order_lem v = rw uncut (sorted_order v)

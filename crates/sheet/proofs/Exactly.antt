@@ -33,39 +33,39 @@ module _ (s : List ℕ) where
 
   pub accepted_exactly : (n cables : ℕ) → (sheet_answer s ≡ accepted n cables) ↔ AcceptedWith s n cables
   accepted_exactly n cables =
-      (λ e. by-reading e (sheet_reading s) refl, λ h. answer_of_lem (accepted_of s h.rows h.sheet) ∙ counts h)
+      (λ e. by_reading e (sheet_reading s) refl, λ h. answer_of_lem (accepted_of s h.rows h.sheet) ∙ counts h)
     where
-      by-reading : sheet_answer s ≡ accepted n cables → (reading : Reading Cable) → sheet_reading s ≡ reading → AcceptedWith s n cables
-      by-reading e (right rows) r =
+      by_reading : sheet_answer s ≡ accepted n cables → (reading : Reading Cable) → sheet_reading s ≡ reading → AcceptedWith s n cables
+      by_reading e (right rows) r =
           record { rows = rows; sheet = accepted_is s r; switches = cc (answer_of_lem r); counted = cc (answer_of_lem r) }
-      by-reading e (wrong rule start size) r = let z : ◌≡◌ {A = ℕ} 0 1 = cc (answer_of_lem r) in absurd (omega arith)
+      by_reading e (wrong rule start size) r = let z : ◌≡◌ {A = ℕ} 0 1 = cc (answer_of_lem r) in absurd (omega arith)
 
   pub refused_exactly : (number : ℕ) → (sheet_answer s ≡ refused number) ↔ SheetRefusal s number
-  refused_exactly number = (λ e. by-reading e (sheet_reading s) refl, λ h. refused_of (sheet_refused s h))
+  refused_exactly number = (λ e. by_reading e (sheet_reading s) refl, λ h. refused_of (sheet_refused s h))
     where
-      by-reading : sheet_answer s ≡ refused number → (reading : Reading Cable) → sheet_reading s ≡ reading → SheetRefusal s number
-      by-reading e (right rows) r = let z : ◌≡◌ {A = ℕ} 0 1 = cc (answer_of_lem r) in absurd (omega arith)
-      by-reading e (wrong rule start size) r =
+      by_reading : sheet_answer s ≡ refused number → (reading : Reading Cable) → sheet_reading s ≡ reading → SheetRefusal s number
+      by_reading e (right rows) r = let z : ◌≡◌ {A = ℕ} 0 1 = cc (answer_of_lem r) in absurd (omega arith)
+      by_reading e (wrong rule start size) r =
           let same : number_of rule ≡ number = cc (answer_of_lem r) in
           rw same at (sheet_tells s r)
 
   pub refused_1 : (sheet_answer s ≡ refused 1) ↔ Refusal1 s
-  refused_1 = Iff.trans (refused_exactly 1) (only-1, by_form)
+  refused_1 = Iff.trans (refused_exactly 1) (only_1, by_form)
     where
-      only-1 : SheetRefusal s 1 → Refusal1 s
-      only-1 (by_form h) = h
+      only_1 : SheetRefusal s 1 → Refusal1 s
+      only_1 (by_form h) = h
 
   pub refused_2 : (sheet_answer s ≡ refused 2) ↔ Refusal2 s
-  refused_2 = Iff.trans (refused_exactly 2) (only-2, by_count)
+  refused_2 = Iff.trans (refused_exactly 2) (only_2, by_count)
     where
-      only-2 : SheetRefusal s 2 → Refusal2 s
-      only-2 (by_count h) = h
+      only_2 : SheetRefusal s 2 → Refusal2 s
+      only_2 (by_count h) = h
 
   pub refused_3 : (sheet_answer s ≡ refused 3) ↔ Refusal3 s
-  refused_3 = Iff.trans (refused_exactly 3) (only-3, by_row)
+  refused_3 = Iff.trans (refused_exactly 3) (only_3, by_row)
     where
-      only-3 : SheetRefusal s 3 → Refusal3 s
-      only-3 (by_row h) = h
+      only_3 : SheetRefusal s 3 → Refusal3 s
+      only_3 (by_row h) = h
 
 module _ (s f : List ℕ) where
   list_of_sheet : {reading : Reading Cable} → sheet_reading s ≡ reading → list_answer s f ≡ list_answer_of (switches_of s) f reading
@@ -74,11 +74,11 @@ module _ (s f : List ℕ) where
 
   -- a sheet that is refused decides, whatever the list
   pub refused_sheet : {number : ℕ} → sheet_answer s ≡ refused number → list_answer s f ≡ refused number
-  refused_sheet {number} e = by-reading (sheet_reading s) refl
+  refused_sheet {number} e = by_reading (sheet_reading s) refl
     where
-      by-reading : (reading : Reading Cable) → sheet_reading s ≡ reading → list_answer s f ≡ refused number
-      by-reading (right rows) r = let z : ◌≡◌ {A = ℕ} 0 1 = cc (answer_of_lem s r) in absurd (omega arith)
-      by-reading (wrong rule start size) r = cc (answer_of_lem s r, list_of_sheet r)
+      by_reading : (reading : Reading Cable) → sheet_reading s ≡ reading → list_answer s f ≡ refused number
+      by_reading (right rows) r = let z : ◌≡◌ {A = ℕ} 0 1 = cc (answer_of_lem s r) in absurd (omega arith)
+      by_reading (wrong rule start size) r = cc (answer_of_lem s r, list_of_sheet r)
 
   -- after an accepted sheet, the list does
   module _ (rows : List Cable) (sheet : AcceptedSheet s rows) where
@@ -90,34 +90,34 @@ module _ (s f : List ℕ) where
     refused_of_list h = list_of h.wrong_there ∙ ap refused h.numbered
 
     pub list_exactly : (number : ℕ) → (list_answer s f ≡ refused number) ↔ ListRefusal rows f number
-    list_exactly number = (λ e. by-reading e (fault_reading rows f) refl, λ h. refused_of_list (fault_refused rows f h))
+    list_exactly number = (λ e. by_reading e (fault_reading rows f) refl, λ h. refused_of_list (fault_refused rows f h))
       where
-        by-reading : list_answer s f ≡ refused number → (reading : Reading Socket) → fault_reading rows f ≡ reading
+        by_reading : list_answer s f ≡ refused number → (reading : Reading Socket) → fault_reading rows f ≡ reading
             → ListRefusal rows f number
-        by-reading e (right faults) r = let z : ◌≡◌ {A = ℕ} 0 1 = cc (list_of r) in absurd (omega arith)
-        by-reading e (wrong rule start size) r =
+        by_reading e (right faults) r = let z : ◌≡◌ {A = ℕ} 0 1 = cc (list_of r) in absurd (omega arith)
+        by_reading e (wrong rule start size) r =
             let same : number_of rule ≡ number = cc (list_of r) in
             rw same at (fault_tells rows f r)
 
     pub refused_4 : (list_answer s f ≡ refused 4) ↔ Refusal4 rows f
-    refused_4 = Iff.trans (list_exactly 4) (only-4, by_fault_form)
+    refused_4 = Iff.trans (list_exactly 4) (only_4, by_fault_form)
       where
-        only-4 : ListRefusal rows f 4 → Refusal4 rows f
-        only-4 (by_fault_form h) = h
+        only_4 : ListRefusal rows f 4 → Refusal4 rows f
+        only_4 (by_fault_form h) = h
 
     pub refused_5 : (list_answer s f ≡ refused 5) ↔ Refusal5 rows f
-    refused_5 = Iff.trans (list_exactly 5) (only-5, by_fault)
+    refused_5 = Iff.trans (list_exactly 5) (only_5, by_fault)
       where
-        only-5 : ListRefusal rows f 5 → Refusal5 rows f
-        only-5 (by_fault h) = h
+        only_5 : ListRefusal rows f 5 → Refusal5 rows f
+        only_5 (by_fault h) = h
 
   -- both lists, whatever they are
   pub either_refused : (number : ℕ) → (list_answer s f ≡ refused number) ↔ EitherRefused s f number
-  either_refused number = (λ e. by-sheet e (sheet_reading s) refl, answered)
+  either_refused number = (λ e. by_sheet e (sheet_reading s) refl, answered)
     where
-      by-sheet : list_answer s f ≡ refused number → (reading : Reading Cable) → sheet_reading s ≡ reading → EitherRefused s f number
-      by-sheet e (right rows) r = of_list (accepted_is s r) ((list_exactly rows (accepted_is s r) number).0 e)
-      by-sheet e (wrong rule start size) r = of_sheet ((refused_exactly s number).0 (cc (answer_of_lem s r, list_of_sheet r)))
+      by_sheet : list_answer s f ≡ refused number → (reading : Reading Cable) → sheet_reading s ≡ reading → EitherRefused s f number
+      by_sheet e (right rows) r = of_list (accepted_is s r) ((list_exactly rows (accepted_is s r) number).0 e)
+      by_sheet e (wrong rule start size) r = of_sheet ((refused_exactly s number).0 (cc (answer_of_lem s r, list_of_sheet r)))
 
       answered : EitherRefused s f number → list_answer s f ≡ refused number
       answered (of_sheet h) = refused_sheet ((refused_exactly s number).1 h)
@@ -125,20 +125,20 @@ module _ (s f : List ℕ) where
 
   pub both_accepted : (n cables : ℕ) → (list_answer s f ≡ accepted n cables) ↔ BothAccepted s f n cables
   both_accepted n cables = (
-    λ e. by-sheet e (sheet_reading s) refl,
+    λ e. by_sheet e (sheet_reading s) refl,
     λ h. list_of h.sheet.rows h.sheet.sheet (fault_right h.sheet.rows f h.right) ∙ counts s h.sheet,
   )
     where
-      by-faults : (rows : List Cable) (sheet : AcceptedSheet s rows) → list_answer s f ≡ accepted n cables
+      by_faults : (rows : List Cable) (sheet : AcceptedSheet s rows) → list_answer s f ≡ accepted n cables
           → (reading : Reading Socket) → fault_reading rows f ≡ reading → BothAccepted s f n cables
-      by-faults rows sheet e (right faults) r =
+      by_faults rows sheet e (right faults) r =
           record {
             sheet = record { rows = rows; sheet = sheet; switches = cc (list_of rows sheet r); counted = cc (list_of rows sheet r) };
             faults = faults;
             right = fault_tells rows f r;
           }
-      by-faults rows sheet e (wrong rule start size) r = let z : ◌≡◌ {A = ℕ} 0 1 = cc (list_of rows sheet r) in absurd (omega arith)
+      by_faults rows sheet e (wrong rule start size) r = let z : ◌≡◌ {A = ℕ} 0 1 = cc (list_of rows sheet r) in absurd (omega arith)
 
-      by-sheet : list_answer s f ≡ accepted n cables → (reading : Reading Cable) → sheet_reading s ≡ reading → BothAccepted s f n cables
-      by-sheet e (right rows) r = by-faults rows (accepted_is s r) e (fault_reading rows f) refl
-      by-sheet e (wrong rule start size) r = let z : ◌≡◌ {A = ℕ} 0 1 = cc (list_of_sheet r) in absurd (omega arith)
+      by_sheet : list_answer s f ≡ accepted n cables → (reading : Reading Cable) → sheet_reading s ≡ reading → BothAccepted s f n cables
+      by_sheet e (right rows) r = by_faults rows (accepted_is s r) e (fault_reading rows f) refl
+      by_sheet e (wrong rule start size) r = let z : ◌≡◌ {A = ℕ} 0 1 = cc (list_of_sheet r) in absurd (omega arith)

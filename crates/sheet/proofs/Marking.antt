@@ -66,7 +66,7 @@ module _ (table : List ℕ) (v p : ℕ) (size : length table ≡ 64) (switch : W
   pub mark_port : (w q : ℕ) → marked (set table (v - 1) (bit_or (get_or table (v - 1) 0) (1 * 2 ^ p % 18446744073709551616))) w q
       ≡ either (both (eqb v w) (eqb p q)) (marked table w q)
   unfolding marked
-  mark_port w q = by-range (within 64 w) refl (within 48 q) refl
+  mark_port w q = by_range (within 64 w) refl (within 48 q) refl
     where
       word : ℕ
       word = bit_or (get_or table (v - 1) 0) (1 * 2 ^ p % 18446744073709551616)
@@ -75,31 +75,31 @@ module _ (table : List ℕ) (v p : ℕ) (size : length table ≡ 64) (switch : W
       new = set table (v - 1) word
 
       elsewhere : (v ≡ w → p ≡ q → ⊥) → both (eqb v w) (eqb p q) ≡ false
-      elsewhere other = by-test (eqb v w) refl (eqb p q) refl
+      elsewhere other = by_test (eqb v w) refl (eqb p q) refl
         where
-          by-test : (a : Bool) → eqb v w ≡ a → (b : Bool) → eqb p q ≡ b → both a b ≡ false
-          by-test true e true f = absurd (other (eqb-true v w e) (eqb-true p q f))
-          by-test true e false f = refl
-          by-test false e b f = refl
+          by_test : (a : Bool) → eqb v w ≡ a → (b : Bool) → eqb p q ≡ b → both a b ≡ false
+          by_test true e true f = absurd (other (eqb-true v w e) (eqb-true p q f))
+          by_test true e false f = refl
+          by_test false e b f = refl
 
       here : 1 ≤ w → bit q (get_or new (w - 1) 0) ≡ either (both (eqb v w) (eqb p q)) (bit q (get_or table (w - 1) 0))
-      here positive = by-switch (eqb v w) refl
+      here positive = by_switch (eqb v w) refl
         where
-          by-switch : (a : Bool) → eqb v w ≡ a
+          by_switch : (a : Bool) → eqb v w ≡ a
               → bit q (get_or new (w - 1) 0) ≡ either (both a (eqb p q)) (bit q (get_or table (w - 1) 0))
-          by-switch true e =
+          by_switch true e =
               let same : w ≡ v = sym (eqb-true v w e) in
               rw (same, get_or-set_same table (v - 1) word 0 (omega arith)) (bit_set (get_or table (v - 1) 0) p q (omega arith))
-          by-switch false e =
+          by_switch false e =
               let apart : (w - 1 ≡ v - 1 → ⊥) = λ s. eqb-false v w e (omega arith) in
               rw (get_or-set_other table (v - 1) (w - 1) word 0 apart)
 
-      by-range : (a : Bool) → within 64 w ≡ a → (b : Bool) → within 48 q ≡ b
+      by_range : (a : Bool) → within 64 w ≡ a → (b : Bool) → within 48 q ≡ b
           → both (both a b) (bit q (get_or new (w - 1) 0)) ≡ either (both (eqb v w) (eqb p q)) (both (both a b) (bit q (get_or table
           (w - 1) 0)))
-      by-range true e true f = here ((decides_within 64 w).0 e).0
-      by-range true e false f = rw (elsewhere (λ s t. true≢false ((decides_within 48 q).1 (subst (Within 48) t port)) f))
-      by-range false e b f = rw (elsewhere (λ s t. true≢false ((decides_within 64 w).1 (subst (Within 64) s switch)) e))
+      by_range true e true f = here ((decides_within 64 w).0 e).0
+      by_range true e false f = rw (elsewhere (λ s t. true≢false ((decides_within 48 q).1 (subst (Within 48) t port)) f))
+      by_range false e b f = rw (elsewhere (λ s t. true≢false ((decides_within 64 w).1 (subst (Within 64) s switch)) e))
 
 past : (a b d : Bool) → either a (either b d) ≡ either b (either a d)
 past a b d = sym (either_assoc a b d) ∙ ap (λ e. either e d) (either_swap a b) ∙ either_assoc b a d
@@ -132,11 +132,11 @@ marks_none = record { size = refl; ports = ports }
     unset : (v p : ℕ) → (b : Bool) → within 64 v ≡ b → both (both b (within 48 p)) (bit p (get_or (replicate 64 0) (v - 1) 0)) ≡ false
     unset v p true inside =
         let range : Within 64 v = (decides_within 64 v).0 inside in
-        rw (get_or-replicate {A = ℕ} 64 (v - 1) 0 0 (omega arith), zero-div (2 ^ p)) (by-port (within 48 p))
+        rw (get_or-replicate {A = ℕ} 64 (v - 1) 0 0 (omega arith), zero-div (2 ^ p)) (by_port (within 48 p))
       where
-        by-port : (b : Bool) → both b false ≡ false
-        by-port true = refl
-        by-port false = refl
+        by_port : (b : Bool) → both b false ≡ false
+        by_port true = refl
+        by_port false = refl
     unset v p false outside = refl
 
     ports : (v p : ℕ) → marked (replicate 64 0) v p ≡ cabled [] v p

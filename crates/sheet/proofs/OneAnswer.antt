@@ -6,7 +6,7 @@ use mathlib.Core.List.{List}
 use denote.Ref.{Bor}
 use native.Mathlib.Omega.{arith}
 use Rattle.sheet.specs.Refusals.{answer_of}
-use Rattle.sheet.specs.FaultyRow.{PartOf, IsPart}
+use Rattle.sheet.specs.FaultyRow.{IsPart}
 use Rattle.sheet.specs.declared.check.Part.{Part}
 use Rattle.sheet.specs.declared.check.Part.TheVariants.{OfSheet, OfFaults}
 use Rattle.sheet.specs.declared.check.Checked.{Checked}

@@ -5,7 +5,7 @@ use mathlib.Core.Path.{◌≡◌, refl, ap, ap₂, subst}
 use mathlib.Core.List.{List, []}
 use Rattle.sheet.specs.Lists.{pick}
 use Rattle.sheet.specs.Records.{right, scan, fault}
-use Rattle.sheet.specs.Cables.{Socket, socket_of, cabled, switches_of, sheet_reading, rows_of}
+use Rattle.sheet.specs.Cables.{Socket, socket_of, switches_of, sheet_reading, rows_of}
 use Rattle.sheet.specs.Faults.{fault_at, fault_rule, fault_reading}
 use Rattle.sheet.specs.Order.{port_order, position_of, cable_of, is_cabled, is_live}
 use Rattle.sheet.specs.Refusals.{accepted, sheet_answer, list_answer, fault_answer_of}

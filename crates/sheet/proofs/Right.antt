@@ -61,8 +61,8 @@ module _ {A : Type 0} (listing : Listing A) (s : List ℕ) (start : ℕ) where
   from_start : {at : ℕ} {before : List A} {reading : Reading A} (room : ℕ) → RightTo at before → room + length before ≡ 512
       → Scans room at before reading → Scans 512 start [] reading
   from_start {reading} room none size rest =
-      let full-room : room ≡ 512 = omega arith in
-      subst (λ (r : ℕ). Scans r start [] reading) full-room rest
+      let full_room : room ≡ 512 = omega arith in
+      subst (λ (r : ℕ). Scans r start [] reading) full_room rest
   from_start room (more {at = at} {before = before} chain few whole obeys) size rest =
       from_start (suc room) chain (omega (arith, one_more before (read s at)))
       (fine (record_whole place s at whole) (fine_when (judges before (read s at)) obeys) rest)
@@ -121,9 +121,9 @@ module _ {A : Type 0} (listing : Listing A) (s : List ℕ) (start : ℕ) where
     where
       by_check : (verdict : Verdict) → check before (read s at) ≡ verdict → WrongWith number answered
       by_check Fine c = absurd (disobeys (when_fine (verdict_judges before (read s at) c)))
-      by_check (Breaks rule) c = rw (when_breaks (verdict_judges before (read s at) c)).0 at (refuses chain some-room)
+      by_check (Breaks rule) c = rw (when_breaks (verdict_judges before (read s at) c)).0 at (refuses chain some_room)
         where
-          some-room : Scans (512 - length before) at before (wrong rule at (next - at))
-          some-room =
+          some_room : Scans (512 - length before) at before (wrong rule at (next - at))
+          some_room =
               let left : 512 - length before ≡ suc (512 - length before - 1) = omega arith in
               rw left (breaks (record_whole place s at whole) c)

@@ -56,20 +56,20 @@ module _ (place : Place) (s : List ℕ) (at : ℕ) where
   found_so : Standing place s at (record_at place s at)
   found_so = by_end (leb (length s) at) refl
     where
-      by-body : at < length s → (form_at s at).place.0 ≡ place.0 → (b : Bool) → leb (form_at s at).body (length s - at - 1) ≡ b
+      by_body : at < length s → (form_at s at).place.0 ≡ place.0 → (b : Bool) → leb (form_at s at).body (length s - at - 1) ≡ b
           → Standing place s at (record_at place s at)
-      by-body i k true e =
+      by_body i k true e =
           let enough : (form_at s at).body ≤ length s - at - 1 = leb-true _ _ e in
           let next = at + 1 + (form_at s at).body in
           let whole : Whole place s at next = record { inside = i; stands = k; next_is = refl; fits = omega arith } in
           rw (record_whole whole) whole
-      by-body i k false e =
+      by_body i k false e =
           let lack : length s - at - 1 < (form_at s at).body = leb-false _ _ e in
           let short : Cut place s at = record { inside = i; stands = k; short = omega arith } in
           rw (record_cut short) short
 
       by_kind : at < length s → (b : Bool) → eqb (form_at s at).place.0 place.0 ≡ b → Standing place s at (record_at place s at)
-      by_kind i true e = by-body i (eqb-true _ _ e) (leb (form_at s at).body (length s - at - 1)) refl
+      by_kind i true e = by_body i (eqb-true _ _ e) (leb (form_at s at).body (length s - at - 1)) refl
       by_kind i false e =
           let other : OtherKind place s at = record { inside = i; stands_not = eqb-false _ _ e } in
           rw (record_kind other) other
@@ -130,14 +130,14 @@ module _ {A : Type 0} (place : Place) (broken : Rule) (read : List ℕ → ℕ �
         → Scanned room next (before ++ (read s at ∷ [])) reading → Scanned (suc room) at before reading
 
   scanned : (room at : ℕ) (before : List A) → Scanned room at before (from room at before)
-  scanned zero at before = by-found (record_at place s at) refl
+  scanned zero at before = by_found (record_at place s at) refl
     where
-      by-found : (found : Found) → record_at place s at ≡ found → Scanned zero at before (from zero at before)
-      by-found (Record next) e = rw (scan_full at next before e) (full e)
-      by-found WrongKind e = rw (scan_kind zero at before e) (kind e)
-      by-found CutShort e = rw (scan_cut zero at before e) (cut e)
-      by-found Ended e = rw (scan_ended zero at before e) (ended e)
-  scanned (suc room) at before = by-found (λ next. scanned room next (before ++ (read s at ∷ []))) (record_at place s at) refl
+      by_found : (found : Found) → record_at place s at ≡ found → Scanned zero at before (from zero at before)
+      by_found (Record next) e = rw (scan_full at next before e) (full e)
+      by_found WrongKind e = rw (scan_kind zero at before e) (kind e)
+      by_found CutShort e = rw (scan_cut zero at before e) (cut e)
+      by_found Ended e = rw (scan_ended zero at before e) (ended e)
+  scanned (suc room) at before = by_found (λ next. scanned room next (before ++ (read s at ∷ []))) (record_at place s at) refl
     where
       by_check : (next : ℕ) → record_at place s at ≡ Record next
           → Scanned room next (before ++ (read s at ∷ [])) (from room next (before ++ (read s at ∷ [])))
@@ -146,12 +146,12 @@ module _ {A : Type 0} (place : Place) (broken : Rule) (read : List ℕ → ℕ �
       by_check next e rest Fine c = rw (scan_fine room at next before e c) (fine e c rest)
       by_check next e rest (Breaks rule) c = rw (scan_breaks room at next before rule e c) (breaks e c)
 
-      by-found : ((next : ℕ) → Scanned room next (before ++ (read s at ∷ [])) (from room next (before ++ (read s at ∷ []))))
+      by_found : ((next : ℕ) → Scanned room next (before ++ (read s at ∷ [])) (from room next (before ++ (read s at ∷ []))))
           → (found : Found) → record_at place s at ≡ found → Scanned (suc room) at before (from (suc room) at before)
-      by-found rest (Record next) e = by_check next e (rest next) (check before (read s at)) refl
-      by-found rest WrongKind e = rw (scan_kind (suc room) at before e) (kind e)
-      by-found rest CutShort e = rw (scan_cut (suc room) at before e) (cut e)
-      by-found rest Ended e = rw (scan_ended (suc room) at before e) (ended e)
+      by_found rest (Record next) e = by_check next e (rest next) (check before (read s at)) refl
+      by_found rest WrongKind e = rw (scan_kind (suc room) at before e) (kind e)
+      by_found rest CutShort e = rw (scan_cut (suc room) at before e) (cut e)
+      by_found rest Ended e = rw (scan_ended (suc room) at before e) (ended e)
 
   pub scan_is : (room at : ℕ) (before : List A) {reading : Reading A} → from room at before ≡ reading
       → Scanned room at before reading

@@ -51,21 +51,21 @@ module _ (s : List ℕ) where
 
   sheet_read : SheetRead (sheet_reading s)
   unfolding form_of
-  sheet_read = by-found (record_at front s 0) refl
+  sheet_read = by_found (record_at front s 0) refl
     where
-      by-switches : Whole front s 0 2 → (b : Bool) → within 64 (switches_of s) ≡ b → SheetRead (sheet_reading s)
-      by-switches whole true inside =
+      by_switches : Whole front s 0 2 → (b : Bool) → within 64 (switches_of s) ≡ b → SheetRead (sheet_reading s)
+      by_switches whole true inside =
           some_read (front_then (record { whole = whole; count = (decides_within 64 (switches_of s)).0 inside }) refl)
-      by-switches whole false outside =
+      by_switches whole false outside =
           some_read (wrong_count whole (λ h. true≢false ((decides_within 64 (switches_of s)).1 h) outside))
 
-      by-found : (found : Found) → record_at front s 0 ≡ found → SheetRead (sheet_reading s)
-      by-found (Record next) e =
+      by_found : (found : Found) → record_at front s 0 ≡ found → SheetRead (sheet_reading s)
+      by_found (Record next) e =
           let whole : Whole front s 0 next = found_is front s 0 e in
-          by-switches (subst (Whole front s 0) (whole_form 0 whole).1 whole) (within 64 (switches_of s)) refl
-      by-found WrongKind e = some_read (other_front (found_is front s 0 e))
-      by-found CutShort e = some_read (cut_front (found_is front s 0 e))
-      by-found Ended e =
+          by_switches (subst (Whole front s 0) (whole_form 0 whole).1 whole) (within 64 (switches_of s)) refl
+      by_found WrongKind e = some_read (other_front (found_is front s 0 e))
+      by_found CutShort e = some_read (cut_front (found_is front s 0 e))
+      by_found Ended e =
           let none : length s ≤ 0 = found_is front s 0 e in
           some_read (no_front (omega arith))
 

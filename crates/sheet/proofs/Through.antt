@@ -52,12 +52,12 @@ module _ {A : Type 0} (place : Place) (broken : Rule) (read : List ℕ → ℕ �
       one_more : 512 - count ≡ suc (511 - count)
       one_more = omega arith
 
-      pub through-breaks : {rule : Rule} → check before (read s at) ≡ Breaks rule → whole ≡ wrong rule at (next - at)
-      through-breaks {rule} b =
+      pub through_breaks : {rule : Rule} → check before (read s at) ≡ Breaks rule → whole ≡ wrong rule at (next - at)
+      through_breaks {rule} b =
           so_far.same ∙ rw one_more (scan_breaks place broken read check s (511 - count) at next before rule e b)
 
-      pub through-fine : check before (read s at) ≡ Fine → Through next (count + 1) (before ++ (read s at ∷ []))
-      through-fine f =
+      pub through_fine : check before (read s at) ≡ Fine → Through next (count + 1) (before ++ (read s at ∷ []))
+      through_fine f =
           let left : 511 - count ≡ 512 - (count + 1) = omega arith in
           record {
             size = length-append before (read s at ∷ []) ∙ ap (λ (k : ℕ). k + 1) so_far.size;

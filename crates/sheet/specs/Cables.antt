@@ -1,12 +1,9 @@
 -- Cable rows, the rules on them, and the sheet: one record of kind 1, then 0 to 512 of kind 2.
-use Rattle.std.specs.Prelude.{ℕ, ◌+◌, List, [], ◌∷◌, Bool, true, false, length, get_or, leb, eqb}
+use Rattle.std.specs.Prelude.{ℕ, ◌+◌, List, [], Bool, get_or, leb, eqb}
 use Rattle.sheet.specs.Lists.{pick, both, either, any}
-use Rattle.sheet.specs.Records.{Reading, right, wrong, formed, scan, wholes, go_on, record_at, front, row}
+use Rattle.sheet.specs.Records.{Reading, wrong, formed, scan, wholes, go_on, record_at, front, row}
 use Rattle.sheet.specs.declared.cables.End.{End}
 use Rattle.sheet.specs.declared.cables.Cable.{Cable}
-use Rattle.sheet.specs.declared.records.Found.{Found}
-use Rattle.sheet.specs.declared.records.Found.TheVariants.{Record, WrongKind, CutShort, Ended}
-use Rattle.sheet.specs.declared.rules.Rule.{Rule}
 use Rattle.sheet.specs.declared.rules.Rule.TheVariants.{SheetForm, SwitchCount, SwitchRange, PortRange, SameSwitch, PortUsed}
 use Rattle.sheet.specs.declared.rules.Verdict.{Verdict}
 use Rattle.sheet.specs.declared.rules.Verdict.TheVariants.{Fine, Breaks}

@@ -1,5 +1,5 @@
 -- The refusal numbers of sheet and fault list, and the paper's values for each answer.
-use Rattle.std.specs.Prelude.{ℕ, ◌+◌, List, length}
+use Rattle.std.specs.Prelude.{ℕ, List, length}
 use Rattle.sheet.specs.Records.{Reading, right, wrong}
 use Rattle.sheet.specs.Cables.{Socket, sheet_reading, switches_of}
 use Rattle.sheet.specs.Faults.{fault_reading}

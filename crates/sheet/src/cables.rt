@@ -6,7 +6,7 @@ use crate::numbers::{Port, Switch};
 use crate::records::byte_at;
 
 // One end of a cable.
-#[derive(Drop)]
+#[derive(Clone, Copy, Drop)]
 pub struct End {
     pub switch: u8,
     pub port: u8,
@@ -14,7 +14,7 @@ pub struct End {
 }
 
 // A cable, written from one of its ends.
-#[derive(Drop)]
+#[derive(Clone, Copy, Drop)]
 pub struct Cable {
     pub near: End,
     pub far: End,

@@ -9,7 +9,7 @@ use crate::records::byte_at;
 use crate::used::no_port_used;
 
 // Accepted with the number of switches and of cables, or refused with the number.
-#[derive(Drop)]
+#[derive(Clone, Copy, Drop)]
 pub enum Checked {
     Accepted(u64, u64),
     Refused(u64),
@@ -51,7 +51,7 @@ pub fn check_faults(sheet: &[u8], faults: &[u8]) -> Checked
 }
 
 // Where the first wrong record stands: its start and its length. The empty part at the sheet's front where nothing is wrong.
-#[derive(Drop)]
+#[derive(Clone, Copy, Drop)]
 pub enum Part {
     OfSheet(usize, usize),
     OfFaults(usize, usize),

@@ -1,4 +1,6 @@
 // The cabling sheet and the fault list: reading, checking, and the questions that the layers above ask of them.
+#![tactic(auto)]
+
 pub mod cables;
 pub mod check;
 pub mod door;

@@ -16,7 +16,7 @@ use crate::rules::{Rule, Verdict};
 use crate::used::{is_either_used, is_used, use_cable};
 
 // How many records there are, all right; or the first wrong one: the rule that it breaks, its start and its length.
-#[derive(Drop)]
+#[derive(Clone, Copy, Drop)]
 pub enum Told {
     Right(u64),
     Wrong(Rule, usize, usize),

@@ -3,7 +3,7 @@ ghost use Rattle.std.specs.Prelude.{◌≡◌, get_or};
 ghost use Rattle.sheet.specs.Records.{record_at, form_of};
 
 // Where a kind of record may stand.
-#[derive(Drop)]
+#[derive(Clone, Copy, Drop)]
 pub struct Place(pub u8);
 
 pub const NOWHERE: Place = Place(0);
@@ -17,7 +17,7 @@ pub const FAULT: Place = Place(3);
 pub const ASK: Place = Place(4);
 
 // The length of a record's body, and where the record may stand.
-#[derive(Drop)]
+#[derive(Clone, Copy, Drop)]
 pub struct Form {
     pub body: usize,
     pub place: Place,
@@ -48,7 +48,7 @@ pub const FORMS: [Form; 5] = [
 ];
 
 // What the walker finds at a position.
-#[derive(Drop)]
+#[derive(Clone, Copy, Drop)]
 pub enum Found {
     // A whole record; the next begins here.
     Record(usize),

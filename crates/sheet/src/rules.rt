@@ -2,7 +2,7 @@
 ghost use Rattle.std.specs.Prelude.{◌≡◌};
 ghost use Rattle.sheet.specs.Refusals.{number_of};
 
-#[derive(Drop)]
+#[derive(Clone, Copy, Drop)]
 pub enum Rule {
     SheetForm,
     SwitchCount,
@@ -15,7 +15,7 @@ pub enum Rule {
 }
 
 // What a record comes to when it is held to the rules.
-#[derive(Drop)]
+#[derive(Clone, Copy, Drop)]
 pub enum Verdict {
     Fine,
     Breaks(Rule),

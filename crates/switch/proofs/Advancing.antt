@@ -121,7 +121,7 @@ module _ (order : List Cable) (f tag : List ℕ) (v arrival d : ℕ) where
   pub longer_tag : (rest : List ℕ) → 1 ≤ v → 2 * v ≤ length tag
       → advanced order f (tag ++ rest) v arrival d ≡ followed_by rest (advanced order f tag v arrival d)
   unfolding advanced
-  longer_tag rest low inside = ap on same-cell ∙ by (eqb v d) (choose (faults_of f) cell.parent.0 cell.current.0 order)
+  longer_tag rest low inside = ap on same_cell ∙ by (eqb v d) (choose (faults_of f) cell.parent.0 cell.current.0 order)
     where
       cell : Cell
       cell = entered (cell_of tag v) arrival
@@ -133,8 +133,8 @@ module _ (order : List Cable) (f tag : List ℕ) (v arrival d : ℕ) where
           pick (eqb v d) (stopped 1 0 (tag ++ rest))
           (moved order (tag ++ rest) v then (choose (faults_of f) then.parent.0 then.current.0 order))
 
-      same-cell : cell_of (tag ++ rest) v ≡ cell_of tag v
-      same-cell =
+      same_cell : cell_of (tag ++ rest) v ≡ cell_of tag v
+      same_cell =
           (λ i. record {
             parent = record { 0 = get_or-append tag rest 0 (2 * (v - 1)) (omega arith) i };
             current = record { 0 = get_or-append tag rest 0 (2 * (v - 1) + 1) (omega arith) i };
@@ -175,10 +175,10 @@ module _ (order : List Cable) (f tag : List ℕ) (v arrival d : ℕ) (fresh : (c
       so (undelivered e e') = let z : ◌≡◌ {A = ℕ} 0 1 = cc in absurd (omega arith)
       so (forwarded e {port} {current} e') =
           let leaves_by : port ≡ arrival = cc in
-          let stays-0 : current ≡ 0 = cc in (
+          let stays_0 : current ≡ 0 = cc in (
             ap (λ p. paper 0 p 0) leaves_by,
             cell_written tag v (left_by (cell_then tag v arrival) current) low inside
-                ∙ (λ i. record { parent = record { 0 = first_parent i }; current = record { 0 = stays-0 i } }),
+                ∙ (λ i. record { parent = record { 0 = first_parent i }; current = record { 0 = stays_0 i } }),
           )
 
 -- ---- the checks
@@ -201,16 +201,16 @@ module _ (n : ℕ) (order : List Cable) (f tag : List ℕ) (v arrival d : ℕ) w
         true_both ((decides_within n v).1 h.present) ((decides_within n d).1 h.destination),
         le-leb (2 * n) (length tag) h.tag_room,
         usable arrival h.arrived,
-        fresh-tag,
-        cell-usable h.current,
+        fresh_tag,
+        cell_usable h.current,
       )
     where
       usable : (p : ℕ) → (p ≡ 0) ⊎ (is_live f p order ≡ true) → either (eqb p 0) (is_live f p order) ≡ true
       usable p (inl e) = rw (eq-eqb p 0 e)
       usable p (inr t) = rw t (either_swap (eqb p 0) true)
 
-      fresh-tag : either (not (eqb arrival 0)) (not (any nonzero (take (2 * n) tag))) ≡ true
-      fresh-tag = by (eqb arrival 0) refl (any nonzero (take (2 * n) tag)) refl
+      fresh_tag : either (not (eqb arrival 0)) (not (any nonzero (take (2 * n) tag))) ≡ true
+      fresh_tag = by (eqb arrival 0) refl (any nonzero (take (2 * n) tag)) refl
         where
           by : (a : Bool) → eqb arrival 0 ≡ a → (b : Bool) → any nonzero (take (2 * n) tag) ≡ b → either (not a) (not b) ≡ true
           by false e b e' = refl
@@ -219,13 +219,13 @@ module _ (n : ℕ) (order : List Cable) (f tag : List ℕ) (v arrival d : ℕ) w
               let (b, at, t) = any_found nonzero (take (2 * n) tag) e' in
               absurd (eqb-false b 0 (not-true (eqb b 0) t) (h.fresh (eqb-true arrival 0 e) b at))
 
-      cell-usable : ((cell_of tag v).current.0 ≡ 0) ⊎ (is_cabled (cell_of tag v).current.0 order ≡ true)
+      cell_usable : ((cell_of tag v).current.0 ≡ 0) ⊎ (is_cabled (cell_of tag v).current.0 order ≡ true)
           → either (eqb (cell_of tag v).current.0 0)
           (both (is_cabled (cell_of tag v).current.0 order)
           (either (eqb (cell_of tag v).parent.0 0) (is_live f (cell_of tag v).parent.0 order)))
           ≡ true
-      cell-usable (inl e) = rw (eq-eqb (cell_of tag v).current.0 0 e)
-      cell-usable (inr t) = rw (t, usable (cell_of tag v).parent.0 h.parent) (either_swap (eqb (cell_of tag v).current.0 0) true)
+      cell_usable (inl e) = rw (eq-eqb (cell_of tag v).current.0 0 e)
+      cell_usable (inr t) = rw (t, usable (cell_of tag v).parent.0 h.parent) (either_swap (eqb (cell_of tag v).current.0 0) true)
 
 -- a step that is in order is the advance
 pub checked_step : (s f tag : List ℕ) (v arrival d : ℕ) {n cables : ℕ} → list_answer s f ≡ accepted n cables

@@ -54,8 +54,8 @@ module _ (order : List Cable) (f tag : List ℕ) (v arrival d : ℕ) where
         ∙ ap (λ c. moved order tag v c (choose (faults_of f) c.parent.0 c.current.0 order)) entry)
 
     module _ {choice : Choice} (chosen : outcome_of choice ≡ choose (faults_of f) cell.parent.0 cell.current.0 order) where
-      pub goes-nowhere : (r : Moved) → choice ≡ Choice.Stays → r.go ≡ Nowhere → away_of r.far ≡ nowhere → told_move r tag ≡ answer
-      goes-nowhere r stay go far =
+      pub goes_nowhere : (r : Moved) → choice ≡ Choice.Stays → r.go ≡ Nowhere → away_of r.far ≡ nowhere → told_move r tag ≡ answer
+      goes_nowhere r stay go far =
           (λ i. record { paper = move_paper (go i); far = far i; tag = tag }) ∙ elsewhere (ap outcome_of (sym stay) ∙ chosen)
 
       pub goes_by : (r : Moved) {port current : Port} {written : List ℕ} → choice ≡ Choice.Leaves port current → r.go ≡ Leaves port

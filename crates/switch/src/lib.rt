@@ -1,4 +1,6 @@
 // One step of a switch: the checks, the tag cell, the published choice; and the door for C.
+#![tactic(auto)]
+
 pub mod cell;
 pub mod checks;
 mod choice;

@@ -70,16 +70,16 @@ module _ (s faults tag trace : List ℕ) (source destination : ℕ) where
       few = (lists_few s faults listed).0
 
       module _ {a : Check} (first : a ≡ switches_rule n source destination) where
-        pub switches-turn-away : (w : Walked) {k number : ℕ} → a ≡ Refused k → number ≡ number_of a → paper_of w ≡ paper 3 0 0 number
+        pub switches_turn_away : (w : Walked) {k number : ℕ} → a ≡ Refused k → number ≡ number_of a → paper_of w ≡ paper 3 0 0 number
             → Promised w tag trace
         unfolding walk_checks
-        switches-turn-away w e number = refusal w (rw (listed, sym first ∙ e) (ap Refused (sym (number ∙ ap number_of e))))
+        switches_turn_away w e number = refusal w (rw (listed, sym first ∙ e) (ap Refused (sym (number ∙ ap number_of e))))
 
         module _ (passed : a ≡ Passed) {b : Check} (second : b ≡ tag_rule n tag) where
-          pub tag-turn-away : (w : Walked) {k number : ℕ} → b ≡ Refused k → number ≡ number_of b → paper_of w ≡ paper 3 0 0 number
+          pub tag_turn_away : (w : Walked) {k number : ℕ} → b ≡ Refused k → number ≡ number_of b → paper_of w ≡ paper 3 0 0 number
               → Promised w tag trace
           unfolding walk_checks
-          tag-turn-away w e number =
+          tag_turn_away w e number =
               refusal w (rw (listed, sym first ∙ passed, sym second ∙ e) (ap Refused (sym (number ∙ ap number_of e))))
 
           module _ (passed' : b ≡ Passed) where
@@ -87,58 +87,58 @@ module _ (s faults tag trace : List ℕ) (source destination : ℕ) where
             tag_fits = leb-true (2 * n) (length tag) (rule_passed 7 (leb (2 * n) (length tag)) (sym second ∙ passed'))
 
             module _ {c : Check} (third : c ≡ trace_rule cables trace) where
-              pub trace-turn-away : (w : Walked) {k number : ℕ} → c ≡ Refused k → number ≡ number_of c → paper_of w ≡ paper 3 0 0 number
+              pub trace_turn_away : (w : Walked) {k number : ℕ} → c ≡ Refused k → number ≡ number_of c → paper_of w ≡ paper 3 0 0 number
                   → Promised w tag trace
               unfolding walk_checks
-              trace-turn-away w e number =
+              trace_turn_away w e number =
                   refusal w
                   (rw (listed, sym first ∙ passed, sym second ∙ passed', sym third ∙ e) (ap Refused (sym (number ∙ ap number_of e))))
 
               -- ---- all have passed
 
               module _ (passed'' : c ≡ Passed) {cleared : List ℕ} (clear : cleared ≡ replicate (2 * n) 0 ++ drop (2 * n) tag) where
-                all-passed : walk_checks s faults tag trace source destination ≡ Passed
+                all_passed : walk_checks s faults tag trace source destination ≡ Passed
                 unfolding walk_checks
-                all-passed = rw (listed, sym first ∙ passed, sym second ∙ passed', sym third ∙ passed'')
+                all_passed = rw (listed, sym first ∙ passed, sym second ∙ passed', sym third ∙ passed'')
 
                 premises : Premises s faults tag trace source destination
-                premises = passed_premises s faults tag trace source destination all-passed
+                premises = passed_premises s faults tag trace source destination all_passed
 
                 zeros : length {A = ℕ} (replicate (2 * switches_of s) 0) ≡ 2 * switches_of s
                 zeros = length-replicate (2 * switches_of s) 0
 
-                cleared-is : cleared ≡ replicate (2 * switches_of s) 0 ++ drop (2 * switches_of s) tag
-                cleared-is = clear ∙ ap (λ k. replicate (2 * k) 0 ++ drop (2 * k) tag) (lists_switches s faults listed)
+                cleared_is : cleared ≡ replicate (2 * switches_of s) 0 ++ drop (2 * switches_of s) tag
+                cleared_is = clear ∙ ap (λ k. replicate (2 * k) 0 ++ drop (2 * k) tag) (lists_switches s faults listed)
 
-                cleared-length : length cleared ≡ length tag
-                cleared-length = ap length clear ∙ simp (length-append, length-drop, length-replicate) (omega (arith, tag_fits))
+                cleared_length : length cleared ≡ length tag
+                cleared_length = ap length clear ∙ simp (length-append, length-drop, length-replicate) (omega (arith, tag_fits))
 
-                pub ready-to-carry : Premises s faults cleared trace source destination
+                pub ready_to_carry : Premises s faults cleared trace source destination
                     × (take (2 * switches_of s) cleared ≡ replicate (2 * switches_of s) 0)
-                ready-to-carry = (
+                ready_to_carry = (
                   record {
                     n = premises.n;
                     cables = premises.cables;
                     lists = premises.lists;
                     source_on = premises.source_on;
                     destination_on = premises.destination_on;
-                    tag_room = omega (arith, premises.tag_room, cleared-length);
+                    tag_room = omega (arith, premises.tag_room, cleared_length);
                     trace_room = premises.trace_room;
                   },
-                  ap (take (2 * switches_of s)) cleared-is
+                  ap (take (2 * switches_of s)) cleared_is
                       ∙ take_at (replicate (2 * switches_of s) 0) (drop (2 * switches_of s) tag) (2 * switches_of s) zeros,
                 )
 
-                walks-cleared : {r : Result} → Walks s faults cleared trace source destination r
+                walks_cleared : {r : Result} → Walks s faults cleared trace source destination r
                     → Walks s faults tag trace source destination r
-                walks-cleared (turned_away e) =
-                    absurd (passed≢refused (premises_pass s faults cleared trace source destination ready-to-carry.0) e)
-                walks-cleared (arrives {k} e way end) =
-                    subst (Walks s faults tag trace source destination) same (arrives all-passed way end)
+                walks_cleared (turned_away e) =
+                    absurd (passed≢refused (premises_pass s faults cleared trace source destination ready_to_carry.0) e)
+                walks_cleared (arrives {k} e way end) =
+                    subst (Walks s faults tag trace source destination) same (arrives all_passed way end)
                   where
                     beyond : drop (2 * switches_of s) tag ≡ drop (2 * switches_of s) cleared
                     beyond =
-                        sym (ap (drop (2 * switches_of s)) cleared-is
+                        sym (ap (drop (2 * switches_of s)) cleared_is
                         ∙ drop_at (replicate (2 * switches_of s) 0) (drop (2 * switches_of s) tag) (2 * switches_of s) zeros)
 
                     same : ended_with s faults tag trace destination k ≡ ended_with s faults cleared trace destination k
@@ -149,7 +149,7 @@ module _ (s faults tag trace : List ℕ) (source destination : ℕ) where
                           trace = (ended_with s faults tag trace destination k).trace;
                         })
 
-                pub carried-through : (w : Walked) {tag' trace' : List ℕ}
+                pub carried_through : (w : Walked) {tag' trace' : List ℕ}
                     → Walks s faults cleared trace source destination (result_of w tag' trace')
                     → Promised w tag' trace'
-                carried-through w walks = promised w (walks-cleared walks)
+                carried_through w walks = promised w (walks_cleared walks)

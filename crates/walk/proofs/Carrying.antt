@@ -23,7 +23,7 @@ use Rattle.walk.specs.Walk.{Packet, step_of, carried, sent, Way, paper, paper_of
 use Rattle.walk.specs.Condition3.{Premises}
 use Rattle.walk.specs.declared.walk.Walked.{Walked}
 use Rattle.walk.proofs.Checking.{premises_pass, lists_switches, lists_cables, lists_sound, lists_few}
-use Rattle.walk.proofs.Following.{Follows, follows, port-on}
+use Rattle.walk.proofs.Following.{Follows, follows, port_on}
 use Rattle.walk.proofs.Computing.{way_bound}
 use Rattle.walk.proofs.Room.{trace_length}
 
@@ -110,16 +110,16 @@ module _ {s faults tag₀ trace₀ : List ℕ} {source destination : ℕ} where
           rw (lists_switches s faults c.premises.lists, lists_cables s faults c.premises.lists) at
           (lists_few s faults c.premises.lists)
 
-      hops-few : {k' : Packet} → Way s faults destination source k' → length k'.trace ≤ 2 * length (rows_of s)
-      hops-few way = way_bound s faults destination source sound on way
+      hops_few : {k' : Packet} → Way s faults destination source k' → length k'.trace ≤ 2 * length (rows_of s)
+      hops_few way = way_bound s faults destination source sound on way
 
       trace_room : 4 * length (rows_of s) ≤ length trace₀
       trace_room = rw (lists_cables s faults c.premises.lists) at c.premises.trace_room
 
       -- ---- at the head of the loop
 
-      pub switch-small : at < 256
-      switch-small = omega (arith, c.here, so.on.1, few.0)
+      pub switch_small : at < 256
+      switch_small = omega (arith, c.here, so.on.1, few.0)
 
       pub ready : Ready tag at arrival
       ready =
@@ -131,17 +131,17 @@ module _ {s faults tag₀ trace₀ : List ℕ} {source destination : ℕ} where
           inside : 2 * at ≤ length tag
           inside = rw c.tag_is (simp length-append (omega (arith, c.here, so.on.1, so.long)))
 
-      pub tag-size : length tag ≡ length tag₀
-      tag-size =
+      pub tag_size : length tag ≡ length tag₀
+      tag_size =
           ap length c.tag_is
           ∙ simp (length-append, length-drop)
           (omega (arith, so.long, lists_switches s faults c.premises.lists, c.premises.tag_room))
 
-      pub trace-size : length trace ≡ length trace₀
-      trace-size =
+      pub trace_size : length trace ≡ length trace₀
+      trace_size =
           ap length c.trace_is
           ∙ simp (length-append, length-drop)
-          (omega (arith, trace_length k.trace, c.count, trace_room, hops-few c.way))
+          (omega (arith, trace_length k.trace, c.count, trace_room, hops_few c.way))
 
       -- ---- after the step
 
@@ -156,8 +156,8 @@ module _ {s faults tag₀ trace₀ : List ℕ} {source destination : ℕ} where
             ∙ longer_tag (order_at s k.at) faults k.tag k.at k.arrival destination beyond so.on.0
             (omega (arith, so.on.1, so.long))
 
-        paper-is : {go : Move} → r.go ≡ go → move_paper go ≡ (step_of s faults destination k).paper
-        paper-is goes = sym (ap move_paper goes) ∙ ap (λ x. x.paper) step_is
+        paper_is : {go : Move} → r.go ≡ go → move_paper go ≡ (step_of s faults destination k).paper
+        paper_is goes = sym (ap move_paper goes) ∙ ap (λ x. x.paper) step_is
 
         -- any step that does not forward ends the walk
         pub walk_ends : {go : Move} → r.go ≡ go → ((move_paper go).end ≡ 0 → ⊥) → (w : Walked)
@@ -167,49 +167,49 @@ module _ {s faults tag₀ trace₀ : List ℕ} {source destination : ℕ} where
             (arrives (premises_pass s faults tag₀ trace₀ source destination c.premises) c.way end)
           where
             end : (step_of s faults destination k).paper.end ≡ 0 → ⊥
-            end z = over (ap (λ x. x.end) (paper-is goes) ∙ z)
+            end z = over (ap (λ x. x.end) (paper_is goes) ∙ z)
 
             tag_same : tag' ≡ k.tag ++ beyond
             tag_same =
                 ap (λ x. x.tag) step_is
                 ∙ ap (λ l. l ++ beyond) (advanced_keeps (order_at s k.at) faults k.tag k.at k.arrival destination end)
 
-            trace-same : trace ≡ trace_bytes k.trace ++ drop (2 * length k.trace) trace₀
-            trace-same = c.trace_is ∙ ap (λ n. trace_bytes k.trace ++ drop (2 * n) trace₀) c.count
+            trace_same : trace ≡ trace_bytes k.trace ++ drop (2 * length k.trace) trace₀
+            trace_same = c.trace_is ∙ ap (λ n. trace_bytes k.trace ++ drop (2 * n) trace₀) c.count
 
-            paper-same : paper_of w ≡ (ended_with s faults tag₀ trace₀ destination k).paper
-            paper-same = answer ∙ (λ i. paper (paper-is goes i).end (c.here i) (c.count i) 0)
+            paper_same : paper_of w ≡ (ended_with s faults tag₀ trace₀ destination k).paper
+            paper_same = answer ∙ (λ i. paper (paper_is goes i).end (c.here i) (c.count i) 0)
 
             same : ended_with s faults tag₀ trace₀ destination k ≡ result_of w tag' trace
-            same = sym (λ i. record { paper = paper-same i; tag = tag_same i; trace = trace-same i })
+            same = sym (λ i. record { paper = paper_same i; tag = tag_same i; trace = trace_same i })
 
         module _ {port : Port} (goes : r.go ≡ Move.Leaves port) where
           forwarded : (step_of s faults destination k).paper.end ≡ 0
-          forwarded = sym (ap (λ x. x.end) (paper-is goes))
+          forwarded = sym (ap (λ x. x.end) (paper_is goes))
 
           next : Way s faults destination source (carried s faults destination k)
           next = Way.hop c.way forwarded
 
-          port-is : port.0 ≡ (step_of s faults destination k).paper.port
-          port-is = ap (λ x. x.port) (paper-is goes)
+          port_is : port.0 ≡ (step_of s faults destination k).paper.port
+          port_is = ap (λ x. x.port) (paper_is goes)
 
           -- one hop more is still no more than twice the cables
           hops_left : hops + 1 ≤ 2 * length (rows_of s)
-          hops_left = omega (arith, c.count, simp length-append at (hops-few next))
+          hops_left = omega (arith, c.count, simp length-append at (hops_few next))
 
-          pub hop-room : HopRoom s trace port.0 hops
-          hop-room =
+          pub hop_room : HopRoom s trace port.0 hops
+          hop_room =
               record {
-                port_small = omega (arith, port-is, (port-on s faults destination source sound k so forwarded).1);
+                port_small = omega (arith, port_is, (port_on s faults destination source sound k so forwarded).1);
                 hops_left = hops_left;
                 hops_small = omega (arith, few.1, hops_left);
-                bytes_left = omega (arith, trace-size, trace_room, hops_left);
+                bytes_left = omega (arith, trace_size, trace_room, hops_left);
               }
 
-          pub carrying-on :
+          pub carrying_on :
               Carrying s faults tag₀ trace₀ source destination tag' (set (set trace (2 * hops) at) (2 * hops + 1) port.0)
               r.far.switch.0 r.far.port.0 (hops + 1)
-          carrying-on =
+          carrying_on =
               record {
                 premises = c.premises;
                 packet = carried s faults destination k;
@@ -226,9 +226,9 @@ module _ {s faults tag₀ trace₀ : List ℕ} {source destination : ℕ} where
               trace_is =
                   let twice : 2 * hops + 2 ≡ 2 * (hops + 1) = omega arith in
                   let written : length (trace_bytes k.trace) ≡ 2 * hops = omega (arith, trace_length k.trace, c.count) in
-                  let fits : 2 * hops + 2 ≤ length trace₀ = omega (arith, hop-room.bytes_left, trace-size) in
+                  let fits : 2 * hops + 2 ≤ length trace₀ = omega (arith, hop_room.bytes_left, trace_size) in
                   ap (λ l. set (set l (2 * hops) at) (2 * hops + 1) port.0) c.trace_is
                   ∙ two_written (trace_bytes k.trace) trace₀ (2 * hops) at port.0 written fits
-                  ∙ (λ i. (trace_bytes k.trace ++ (c.here i ∷ port-is i ∷ [])) ++ drop (twice i) trace₀)
+                  ∙ (λ i. (trace_bytes k.trace ++ (c.here i ∷ port_is i ∷ [])) ++ drop (twice i) trace₀)
                   ∙ ap (λ l. l ++ drop (2 * (hops + 1)) trace₀)
                   (sym (trace_more k.trace (record { switch = k.at; port = (step_of s faults destination k).paper.port })))

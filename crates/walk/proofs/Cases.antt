@@ -55,18 +55,18 @@ module _ (c : Case) where
   told_holds : Holds c (told c)
   told_holds = by_answer (list_answer c.sheet c.faults) refl
     where
-      by-sheet : {n cables : ℕ} → list_answer c.sheet c.faults ≡ accepted n cables → (b : Bool)
+      by_sheet : {n cables : ℕ} → list_answer c.sheet c.faults ≡ accepted n cables → (b : Bool)
           → both (within n c.source) (within n c.destination) ≡ b → Holds c (on_sheet c b)
-      by-sheet {n} lists true on =
+      by_sheet {n} lists true on =
           told_on lists
           ((on_sheet_lem c.source c.destination n).0 on)
-      by-sheet lists false off = λ tag trace.
+      by_sheet lists false off = λ tag trace.
           turned_away (off_refuse c.sheet c.faults tag trace c.source c.destination lists off)
 
       by_answer : (answer : Answer) → list_answer c.sheet c.faults ≡ answer → Holds c (on_answer c answer)
       by_answer (refused number) e = λ tag trace.
           turned_away (lists_refuse c.sheet c.faults tag trace c.source c.destination e)
-      by_answer (accepted n cables) e = by-sheet e (both (within n c.source) (within n c.destination)) refl
+      by_answer (accepted n cables) e = by_sheet e (both (within n c.source) (within n c.destination)) refl
 
 all_told : (list : List Case) → map told list ≡ map (λ c. c.expected) list → All (λ c. Holds c c.expected) list
 all_told [] e = tt

@@ -27,7 +27,7 @@ use Rattle.walk.proofs.Darts.{dart}
 use Rattle.walk.proofs.SheetNetwork.{sheet_lawful}
 use Rattle.walk.proofs.Following.{traveller_of, Follows, follows, parent_in_lem, current_in_lem}
 use Rattle.walk.proofs.Checking.{lists_switches, lists_sound}
-use Rattle.walk.proofs.Traversal.{Sane, run-sane}
+use Rattle.walk.proofs.Traversal.{Sane, run_sane}
 
 zeros_only : (n b : ℕ) → b ∈ replicate n 0 → b ≡ 0
 zeros_only zero b m = absurd m
@@ -50,7 +50,7 @@ module _ (s faults : List ℕ) (source destination : ℕ) {n cables : ℕ} (list
     lawful = sheet_lawful s faults (lists_sound s faults lists)
 
     sane : Sane (network_of s faults) (traveller_of k) (reverse k.trace)
-    sane = run-sane (network_of s faults) lawful so.run
+    sane = run_sane (network_of s faults) lawful so.run
 
     low : 1 ≤ k.at
     low = so.on.0

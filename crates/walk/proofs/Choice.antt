@@ -67,9 +67,9 @@ module _ (ports : List ℕ) (live : ℕ → Bool) (parent current : ℕ) where
   scan [] = inl tt
   scan (x ∷ xs) = by (live x) refl (ℕ_discrete x parent) (scan xs)
     where
-      past-shut : Barred x → All Barred xs ⊎ First xs → All Barred (x ∷ xs) ⊎ First (x ∷ xs)
-      past-shut c (inl all) = inl (c, all)
-      past-shut c (inr f) =
+      past_shut : Barred x → All Barred xs ⊎ First xs → All Barred (x ∷ xs) ⊎ First (x ∷ xs)
+      past_shut c (inl all) = inl (c, all)
+      past_shut c (inr f) =
           inr (record {
             port = f.port;
             passed = x ∷ f.passed;
@@ -81,8 +81,8 @@ module _ (ports : List ℕ) (live : ℕ → Bool) (parent current : ℕ) where
           })
 
       by : (b : Bool) → live x ≡ b → Dec (x ≡ parent) → All Barred xs ⊎ First xs → All Barred (x ∷ xs) ⊎ First (x ∷ xs)
-      by false dead d deeper = past-shut (inl dead) deeper
-      by true alive (yes e) deeper = past-shut (inr e) deeper
+      by false dead d deeper = past_shut (inl dead) deeper
+      by true alive (yes e) deeper = past_shut (inr e) deeper
       by true alive (no n) deeper =
           inr (record { port = x; passed = []; rest = xs; split = refl; shut = tt; alive = alive; other = n })
 
@@ -145,7 +145,7 @@ module _ (ports : List ℕ) (live : ℕ → Bool) (parent current : ℕ) where
           alive = alive;
           other = other;
           waiting = waiting;
-          done = λ m. once-rest.0 (rw next at m);
+          done = λ m. once_rest.0 (rw next at m);
           kept = λ q m. rw e (in_right passed (p ∷ rest) q (inr (rw next at m)));
           passed = λ q m. by q (append_in passed (p ∷ rest) q (rw e at m));
         }
@@ -159,8 +159,8 @@ module _ (ports : List ℕ) (live : ℕ → Bool) (parent current : ℕ) where
         whole : ports ≡ (before ++ passed) ++ (p ∷ rest)
         whole = (after_suffix current ports).1 ∙ ap (λ l. before ++ l) e ∙ sym (append_assoc before passed (p ∷ rest))
 
-        once-rest : Once (p ∷ rest)
-        once-rest = ((once_append (before ++ passed) (p ∷ rest)).0 (subst Once whole once)).second
+        once_rest : Once (p ∷ rest)
+        once_rest = ((once_append (before ++ passed) (p ∷ rest)).0 (subst Once whole once)).second
 
         next : after p ports ≡ rest
         next = rw (ne_eqb p 0 (cabled p (after_in current ports p waiting)))

@@ -28,47 +28,47 @@ module _ {Row : Type 0} (N : Network Row) (s : ℕ) where
 
   module _ (L : Lawful N) (f g : ℕ → ℕ) (v : ℕ) (way : List Dart) (S : Settled N s f g v way) where
     module _ (home : v ≡ s) (full : Complete N way s) where
-      came-back : (w p : ℕ) → Complete N way w → Live N (dart w p) → N.far (dart w p) ∈ way
-      came-back w p done l = entered N L s v way S.moved.chain S.moved.live S.moved.once home w done p l
+      came_back : (w p : ℕ) → Complete N way w → Live N (dart w p) → N.far (dart w p) ∈ way
+      came_back w p done l = entered N L s v way S.moved.chain S.moved.live S.moved.once home w done p l
 
       -- a switch whose parent leads to a complete one has left by the parent, hence is complete
-      parent-left : (w : ℕ) → Live N (dart w (f w)) → Complete N way (N.far (dart w (f w))).switch → Complete N way w
-      parent-left w l done = by (S.moved.sites w).progress
+      parent_left : (w : ℕ) → Live N (dart w (f w)) → Complete N way (N.far (dart w (f w))).switch → Complete N way w
+      parent_left w l done = by (S.moved.sites w).progress
         where
           d : Dart
           d = N.far (dart w (f w))
 
           left : dart w (f w) ∈ way
-          left = subst (λ e. e ∈ way) (far_far N L (dart w (f w)) l) (came-back d.switch d.port done (far_live N L (dart w (f w)) l))
+          left = subst (λ e. e ∈ way) (far_far N L (dart w (f w)) l) (came_back d.switch d.port done (far_live N L (dart w (f w)) l))
 
           by : Progress N s w (f w) (g w) way → Complete N way w
           by (inl o) = absurd ((o.left (f w) left).1 refl)
           by (inr c) = c.1
 
       -- along the way from its start: the parent's cable was crossed inward before the switch was left
-      left-complete : (part : List Dart) → All (Live N) part → Rooted N s f part → All (λ e. Complete N way e.switch) part
-      left-complete [] l r = tt
-      left-complete (e ∷ part) l r = let earlier = left-complete part l.1 r.1 in (by earlier r.0, earlier)
+      left_complete : (part : List Dart) → All (Live N) part → Rooted N s f part → All (λ e. Complete N way e.switch) part
+      left_complete [] l r = tt
+      left_complete (e ∷ part) l r = let earlier = left_complete part l.1 r.1 in (by earlier r.0, earlier)
         where
           by : All (λ d. Complete N way d.switch) part → (e.switch ≡ s) ⊎ (dart e.switch (f e.switch) ∈ entries N part)
               → Complete N way e.switch
           by earlier (inl source) = subst (Complete N way) (sym source) full
           by earlier (inr m) =
               let parent = dart e.switch (f e.switch) in
-              parent-left e.switch (entry_live N L part l.1 parent m)
+              parent_left e.switch (entry_live N L part l.1 parent m)
               (all_at (λ d. Complete N way d.switch) part (N.far parent) earlier (entry_left N L part l.1 parent m))
 
-      reached-complete : (w : ℕ) → Reached N s w → Complete N way w
-      reached-complete w here = full
-      reached-complete w (along {v = u} r p l) =
-          all_at (λ e. Complete N way e.switch) way (N.far (dart u p)) (left-complete way S.moved.live S.moved.rooted)
-          (came-back u p (reached-complete u r) l)
+      reached_complete : (w : ℕ) → Reached N s w → Complete N way w
+      reached_complete w here = full
+      reached_complete w (along {v = u} r p l) =
+          all_at (λ e. Complete N way e.switch) way (N.far (dart u p)) (left_complete way S.moved.live S.moved.rooted)
+          (came_back u p (reached_complete u r) l)
 
     stayed : Chooses N f g v stays → All (Shuts N f g v) (after (g v) (N.order v)) × (f v ≡ 0)
     stayed (nowhere shut none) = (shut, none)
 
     pub ended : Chooses N f g v stays → (v ≡ s) × ((w : ℕ) → Reached N s w → Complete N way w)
-    ended chosen = (home, reached-complete home (subst (Complete N way) home source))
+    ended chosen = (home, reached_complete home (subst (Complete N way) home source))
       where
         none : f v ≡ 0
         none = (stayed chosen).1

@@ -19,7 +19,7 @@ use Rattle.walk.specs.Condition3.{network_of}
 use Rattle.walk.proofs.Running.{Packet as Traveller, ChosenAt, Hop, Run}
 use Rattle.walk.proofs.Darts.{dart}
 use Rattle.walk.proofs.SheetNetwork.{port_range, far_range, sheet_lawful}
-use Rattle.walk.proofs.Traversal.{run-live}
+use Rattle.walk.proofs.Traversal.{run_live}
 
 -- ---- parents and currents, as the tag's bytes give them; there is no switch 0
 
@@ -81,8 +81,8 @@ module _ (s faults : List ℕ) (d source : ℕ) where
       currents_stay zero other = refl
       currents_stay (suc w) other = ap (λ x. x.current.0) (how.others low (suc w) (omega arith) other)
 
-      hop-made : Hop (network_of s faults) (traveller_of k) step.paper.port how.current (traveller_of (carried s faults d k))
-      hop-made =
+      hop_made : Hop (network_of s faults) (traveller_of k) step.paper.port how.current (traveller_of (carried s faults d k))
+      hop_made =
           record {
             at = ap (λ x. x.switch) how.far;
             arrival = ap (λ x. x.port) how.far;
@@ -93,43 +93,43 @@ module _ (s faults : List ℕ) (d source : ℕ) where
             currents_stay = currents_stay;
           }
 
-      run-made :
+      run_made :
           Run (network_of s faults) source d (traveller_of (carried s faults d k)) (dart k.at step.paper.port ∷ reverse k.trace)
-      run-made = Run.hop so.run how.away (chosen_at k low how.choice) hop-made
+      run_made = Run.hop so.run how.away (chosen_at k low how.choice) hop_made
 
       cabled : Cabled (network_of s faults) (dart k.at step.paper.port)
-      cabled = (run-live (network_of s faults) (sheet_lawful s faults sound) run-made).0.0.0
+      cabled = (run_live (network_of s faults) (sheet_lawful s faults sound) run_made).0.0.0
 
-      pub port-on : Within 48 (step_of s faults d k).paper.port
-      port-on = port_range s faults sound k.at step.paper.port cabled
+      pub port_on : Within 48 (step_of s faults d k).paper.port
+      port_on = port_range s faults sound k.at step.paper.port cabled
 
       -- the cable is on the sheet, and so is its far end
-      far-on : Within (switches_of s) step.far.switch × Within 48 step.far.port
-      far-on = let (c, far, range) = far_range s faults sound k.at step.paper.port cabled in rw (how.far ∙ far) range
+      far_on : Within (switches_of s) step.far.switch × Within 48 step.far.port
+      far_on = let (c, far, range) = far_range s faults sound k.at step.paper.port cabled in rw (how.far ∙ far) range
 
-      hop-follows : Follows (carried s faults d k)
-      hop-follows =
+      hop_follows : Follows (carried s faults d k)
+      hop_follows =
           record {
-            run = rw (reverse-append k.trace (dart k.at step.paper.port ∷ [])) run-made;
+            run = rw (reverse-append k.trace (dart k.at step.paper.port ∷ [])) run_made;
             long = advanced_length (order_at s k.at) faults k.tag k.at k.arrival d ∙ so.long;
-            on = far-on.0;
-            came = inr far-on.1;
+            on = far_on.0;
+            came = inr far_on.1;
           }
 
     pub follows : Within (switches_of s) source → {k : Packet} → Way s faults d source k → Follows k
     follows on Way.start =
         record {
-          run = Run.start refl refl zero-parent zero-current;
+          run = Run.start refl refl zero_parent zero_current;
           long = length-replicate (2 * switches_of s) 0;
           on = on;
           came = inl refl;
         }
       where
-        zero-parent : (w : ℕ) → parent_in (replicate (2 * switches_of s) 0) w ≡ 0
-        zero-parent zero = refl
-        zero-parent (suc w) = all_zero (2 * switches_of s) _
+        zero_parent : (w : ℕ) → parent_in (replicate (2 * switches_of s) 0) w ≡ 0
+        zero_parent zero = refl
+        zero_parent (suc w) = all_zero (2 * switches_of s) _
 
-        zero-current : (w : ℕ) → current_in (replicate (2 * switches_of s) 0) w ≡ 0
-        zero-current zero = refl
-        zero-current (suc w) = all_zero (2 * switches_of s) _
-    follows on (Way.hop {k} way e) = hop-follows k (follows on way) e
+        zero_current : (w : ℕ) → current_in (replicate (2 * switches_of s) 0) w ≡ 0
+        zero_current zero = refl
+        zero_current (suc w) = all_zero (2 * switches_of s) _
+    follows on (Way.hop {k} way e) = hop_follows k (follows on way) e

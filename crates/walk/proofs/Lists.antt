@@ -109,13 +109,13 @@ module _ {A : Type 0} where
       → count p ys ≤ count p xs → Within p ys xs
   none_left_out same p xs ys o h fits y m t = by (decide_in same y xs)
     where
-      with-y : Within p (y ∷ xs) ys
-      with-y x (inl e) q = subst (λ z. z ∈ ys) (sym e) m
-      with-y x (inr l) q = h x l q
+      with_y : Within p (y ∷ xs) ys
+      with_y x (inl e) q = subst (λ z. z ∈ ys) (sym e) m
+      with_y x (inr l) q = h x l q
 
       by : Dec (y ∈ xs) → y ∈ xs
       by (yes l) = l
-      by (no k) = absurd (omega (arith, ap tick t, count_within p (y ∷ xs) ys (k, o) with-y))
+      by (no k) = absurd (omega (arith, ap tick t, count_within p (y ∷ xs) ys (k, o) with_y))
 
   count_every : (xs : List A) → count (λ x. true) xs ≡ length xs
   count_every [] = refl

@@ -44,13 +44,13 @@ module _ (s faults : List ℕ) (destination source : ℕ) where
       → ((step_of s faults destination k).paper.end ≡ 0 → ⊥) → ((step_of s faults destination k').paper.end ≡ 0 → ⊥) → k ≡ k'
   one_end {k} {k'} way way' end end' = by (ℕ_discrete (length k.trace) (length k'.trace))
     where
-      not-before : {k k' : Packet} → Way s faults destination source k → Way s faults destination source k' → (Forwarded k → ⊥)
+      not_before : {k k' : Packet} → Way s faults destination source k → Way s faults destination source k' → (Forwarded k → ⊥)
           → length k.trace < length k'.trace → ⊥
-      not-before {k} way way' end h = end (subst Forwarded (sym (way_after way)) (before_forwarded way' (length k.trace) h))
+      not_before {k} way way' end h = end (subst Forwarded (sym (way_after way)) (before_forwarded way' (length k.trace) h))
 
       by : Dec (length k.trace ≡ length k'.trace) → k ≡ k'
       by (yes q) = way_after way ∙ ap after q ∙ sym (way_after way')
-      by (no n) = absurd (n (omega (arith, not-before way way' end, not-before way' way end')))
+      by (no n) = absurd (n (omega (arith, not_before way way' end, not_before way' way end')))
 
 module _ {s faults tag trace : List ℕ} {source destination : ℕ} where
   pub walks_one : {r r' : Result} → Walks s faults tag trace source destination r → Walks s faults tag trace source destination r'

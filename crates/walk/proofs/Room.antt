@@ -70,13 +70,13 @@ module _ (s faults : List ℕ) (source destination : ℕ) where
       → Walks s faults (tag ++ more) (trace ++ more') source destination (longer_by more more' r)
   longer_buffers more more' passed (turned_away e) = absurd (passed≢refused passed e)
   longer_buffers {tag} {trace} more more' passed (arrives {k} e way end) =
-      subst (Walks s faults (tag ++ more) (trace ++ more') source destination) same (arrives passed-too way end)
+      subst (Walks s faults (tag ++ more) (trace ++ more') source destination) same (arrives passed_too way end)
     where
       p : Premises s faults tag trace source destination
       p = passed_premises s faults tag trace source destination e
 
-      passed-too : walk_checks s faults (tag ++ more) (trace ++ more') source destination ≡ Passed
-      passed-too =
+      passed_too : walk_checks s faults (tag ++ more) (trace ++ more') source destination ≡ Passed
+      passed_too =
           premises_pass s faults (tag ++ more) (trace ++ more') source destination
           (record {
             n = p.n;

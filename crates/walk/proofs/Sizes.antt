@@ -72,8 +72,8 @@ module _ {Row : Type 0} (N : Network Row) where
     )
 
     module _ (L : Lawful N) where
-      pub counts-due : (r : Row) → r ∈ N.rows → Counts r → Due N s (N.one r) × Due N s (N.other r)
-      counts-due r m (l, t) = by t
+      pub counts_due : (r : Row) → r ∈ N.rows → Counts r → Due N s (N.one r) × Due N s (N.other r)
+      counts_due r m (l, t) = by t
         where
           one : Live N (N.one r)
           one = (L.end_cabled (N.one r) (one_in N N.rows r m), l)
@@ -85,27 +85,27 @@ module _ {Row : Type 0} (N : Network Row) where
           by (inl a) = ((one, a), (other, subst (λ d. Reached N s d.switch) (L.far_one r m) (along a (N.one r).port one)))
           by (inr b) = ((one, subst (λ d. Reached N s d.switch) (L.far_other r m) (along b (N.other r).port other)), (other, b))
 
-      kept-due : {rs : List Row} {m : ℕ} (c : Counted N s rs m) → ((r : Row) → r ∈ rs → r ∈ N.rows) → (e : Dart) → e ∈ kept c → Due N s e
-      kept-due (counts {r} l t c) within e (inl q) = subst (Due N s) (sym q) (counts-due r (within r (inl refl)) (l, t)).0
-      kept-due (counts {r} l t c) within e (inr (inl q)) = subst (Due N s) (sym q) (counts-due r (within r (inl refl)) (l, t)).1
-      kept-due (counts l t c) within e (inr (inr m)) = kept-due c (λ x k. within x (inr k)) e m
-      kept-due (skipped n c) within e m = kept-due c (λ x k. within x (inr k)) e m
+      kept_due : {rs : List Row} {m : ℕ} (c : Counted N s rs m) → ((r : Row) → r ∈ rs → r ∈ N.rows) → (e : Dart) → e ∈ kept c → Due N s e
+      kept_due (counts {r} l t c) within e (inl q) = subst (Due N s) (sym q) (counts_due r (within r (inl refl)) (l, t)).0
+      kept_due (counts {r} l t c) within e (inr (inl q)) = subst (Due N s) (sym q) (counts_due r (within r (inl refl)) (l, t)).1
+      kept_due (counts l t c) within e (inr (inr m)) = kept_due c (λ x k. within x (inr k)) e m
+      kept_due (skipped n c) within e m = kept_due c (λ x k. within x (inr k)) e m
 
-      due-kept : {rs : List Row} {m : ℕ} (c : Counted N s rs m) → ((r : Row) → r ∈ rs → r ∈ N.rows)
+      due_kept : {rs : List Row} {m : ℕ} (c : Counted N s rs m) → ((r : Row) → r ∈ rs → r ∈ N.rows)
           → (e : Dart) → e ∈ ends_of N rs → Due N s e → e ∈ kept c
-      due-kept (counts l t c) within e (inl q) d = inl q
-      due-kept (counts l t c) within e (inr (inl q)) d = inr (inl q)
-      due-kept (counts l t c) within e (inr (inr m)) d = inr (inr (due-kept c (λ x k. within x (inr k)) e m d))
-      due-kept (skipped {r} n c) within e (inl q) d = absurd (n (sym (ap N.live q) ∙ d.0.1) (inl (rw q at d.1)))
-      due-kept (skipped {r} n c) within e (inr (inl q)) d =
+      due_kept (counts l t c) within e (inl q) d = inl q
+      due_kept (counts l t c) within e (inr (inl q)) d = inr (inl q)
+      due_kept (counts l t c) within e (inr (inr m)) d = inr (inr (due_kept c (λ x k. within x (inr k)) e m d))
+      due_kept (skipped {r} n c) within e (inl q) d = absurd (n (sym (ap N.live q) ∙ d.0.1) (inl (rw q at d.1)))
+      due_kept (skipped {r} n c) within e (inr (inl q)) d =
           absurd (n (L.Live-both r (within r (inl refl)) ∙ sym (ap N.live q) ∙ d.0.1) (inr (rw q at d.1)))
-      due-kept (skipped n c) within e (inr (inr m)) d = due-kept c (λ x k. within x (inr k)) e m d
+      due_kept (skipped n c) within e (inr (inr m)) d = due_kept c (λ x k. within x (inr k)) e m d
 
       module _ {m : ℕ} (c : Counted N s N.rows m) (way : List Dart) where
         pub at_most : Once way → All (Due N s) way → length way ≤ 2 * m
         at_most once due = rw (← kept_length c) (length_within way (kept c) once
-            (λ e k. let d = all_at (Due N s) way e due k in due-kept c (λ r l. l) e (L.cabled_end e d.0.0) d))
+            (λ e k. let d = all_at (Due N s) way e due k in due_kept c (λ r l. l) e (L.cabled_end e d.0.0) d))
 
         pub at_least : ((e : Dart) → Due N s e → e ∈ way) → 2 * m ≤ length way
         at_least all = rw (← kept_length c)
-            (length_within (kept c) way (kept_once c L.ends_once) (λ e k. all e (kept-due c (λ r l. l) e k)))
+            (length_within (kept c) way (kept_once c L.ends_once) (λ e k. all e (kept_due c (λ r l. l) e k)))

@@ -76,8 +76,8 @@ module _ {Row : Type 0} (N : Network Row) (s : ℕ) (L : Lawful N) where
         site : Site N s v (f v) c (dart v p ∷ way)
         started : v ≡ s → c ≡ 0 → ⊥
 
-      at-port : (q : ℕ) → q ≡ p → dart v q ∈ (dart v p ∷ way)
-      at-port q e = inl (ap (dart v) e)
+      at_port : (q : ℕ) → q ≡ p → dart v q ∈ (dart v p ∷ way)
+      at_port q e = inl (ap (dart v) e)
 
       goes : Goes → Turned
       goes t =
@@ -103,7 +103,7 @@ module _ {Row : Type 0} (N : Network Row) (s : ℕ) (L : Lawful N) where
               → Accounted N v (f v) c (dart v p ∷ way) q
           passed q l (inl (inl dead)) = absurd (true≢false (sym l.1 ∙ dead))
           passed q l (inl (inr e)) = inr (inr e)
-          passed q l (inr (inl e)) = inl (at-port q e)
+          passed q l (inr (inl e)) = inl (at_port q e)
           passed q l (inr (inr m)) = inr (inl m)
 
           rest : (q : ℕ) → Live N (dart v q) → Accounted N v (f v) (g v) way q → Accounted N v (f v) c (dart v p ∷ way) q
@@ -121,7 +121,7 @@ module _ {Row : Type 0} (N : Network Row) (s : ℕ) (L : Lawful N) where
             crossed = rw t.back (entry_live N L way S.moved.live (dart v (f v)) came.0);
             new = λ m. (open_here.left p m).1 t.back;
             site = record {
-              progress = inr (came.1, λ q l. ⊎_elim inr (λ e. at-port q (e ∙ sym t.back)) (spent t.shut q l));
+              progress = inr (came.1, λ q l. ⊎_elim inr (λ e. at_port q (e ∙ sym t.back)) (spent t.shut q l));
               root = inr (inr came.0, came.1);
               tried = rw t.same (S.moved.sites v).tried;
             };

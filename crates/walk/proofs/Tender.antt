@@ -21,11 +21,11 @@ use Rattle.sheet.proofs.Lists.{all_at, all_of}
 use Rattle.walk.proofs.Lists.{reverse_in, in_reverse, reverse_all, reverse_once}
 use Rattle.walk.proofs.Running.{Lawful, Run}
 use Rattle.walk.proofs.Darts.{Due}
-use Rattle.walk.proofs.Sizes.{counts-due}
+use Rattle.walk.proofs.Sizes.{counts_due}
 use Rattle.walk.proofs.SheetNetwork.{sheet_lawful}
 use Rattle.walk.proofs.Following.{traveller_of, Follows, chosen_at, follows}
 use Rattle.walk.proofs.Checking.{passed≢refused, premises_pass, lists_switches, lists_sound}
-use Rattle.walk.proofs.Traversal.{run-once, run-chain, run-live, delivered-reached, delivered-bound, home, none-home, NoneHome}
+use Rattle.walk.proofs.Traversal.{run_once, run_chain, run_live, delivered_reached, delivered_bound, home, none_home, NoneHome}
 use Rattle.walk.proofs.Traversal.{counted_is, counted_one}
 
 -- ---- the hops that a trace tells are the hops made
@@ -45,7 +45,7 @@ module _ (s faults : List ℕ) (source destination : ℕ) (sound : Sound (switch
     so = follows s faults destination source sound on way
 
     reached : k.at ≡ destination → Joined s faults source destination
-    reached there = delivered-reached (network_of s faults) lawful so.run there
+    reached there = delivered_reached (network_of s faults) lawful so.run there
 
     no_hop : source ≡ destination → length k.trace ≡ 0
     no_hop e =
@@ -57,7 +57,7 @@ module _ (s faults : List ℕ) (source destination : ℕ) (sound : Sound (switch
     live : All (Live (network_of s faults)) k.trace
     live = reverse_all (Live (network_of s faults)) k.trace
         (all_of (Live (network_of s faults)) (reverse k.trace)
-        (λ e m. (all_at (Due (network_of s faults) source) (reverse k.trace) e (run-live (network_of s faults) lawful so.run) m).0))
+        (λ e m. (all_at (Due (network_of s faults) source) (reverse k.trace) e (run_live (network_of s faults) lawful so.run) m).0))
 
     condition_3 : {step : Stepped} → Ends (rows_of s) faults k.tag k.at k.arrival destination step
         → Condition3 s faults source destination m (paper step.paper.end k.at (length k.trace) 0) k.trace
@@ -73,13 +73,13 @@ module _ (s faults : List ℕ) (source destination : ℕ) (sound : Sound (switch
               omega (
                 arith,
                 length-reverse k.trace,
-                delivered-bound (network_of s faults) lawful so.run there (λ q. apart (sym q)) counted,
+                delivered_bound (network_of s faults) lawful so.run there (λ q. apart (sym q)) counted,
               );
           exactly = λ e. absurd (omega arith);
           each_way = λ e. absurd (omega arith);
-          once = reverse_once k.trace (run-once (network_of s faults) lawful so.run);
+          once = reverse_once k.trace (run_once (network_of s faults) lawful so.run);
           live = live;
-          chain = run-chain (network_of s faults) lawful so.run;
+          chain = run_chain (network_of s faults) lawful so.run;
           counted = refl;
         }
     condition_3 (finds_none away chosen) =
@@ -93,15 +93,15 @@ module _ (s faults : List ℕ) (source destination : ℕ) (sound : Sound (switch
           at_most = λ e apart. absurd (omega arith);
           exactly = λ e. sym (length-reverse k.trace) ∙ none.size m counted;
           each_way = λ e x. (λ l. (none.crossed x).0 (in_reverse k.trace x l), λ t. reverse_in k.trace x ((none.crossed x).1 t));
-          once = reverse_once k.trace (run-once (network_of s faults) lawful so.run);
+          once = reverse_once k.trace (run_once (network_of s faults) lawful so.run);
           live = live;
-          chain = run-chain (network_of s faults) lawful so.run;
+          chain = run_chain (network_of s faults) lawful so.run;
           counted = refl;
         }
       where
         none : NoneHome (network_of s faults) source destination (traveller_of k) (reverse k.trace)
         none =
-            none-home (network_of s faults) lawful so.run away (chosen_at s faults destination source k so.on.0 chosen)
+            none_home (network_of s faults) lawful so.run away (chosen_at s faults destination source k so.on.0 chosen)
 
 -- ---- on the inputs of a walk
 
@@ -132,7 +132,7 @@ module _ (s faults tag trace : List ℕ) (source destination : ℕ) where
         → Joined s faults source c.near.switch ⊎ Joined s faults source c.far.switch
         → (socket_of c.near ∈ hops_in r.paper.hops r.trace) × (socket_of c.far ∈ hops_in r.paper.hops r.trace)
     each_cable walks none c at live reached =
-        let (near, far) = counts-due (network_of s faults) source (sheet_lawful s faults sound) c at (live, reached) in
+        let (near, far) = counts_due (network_of s faults) source (sheet_lawful s faults sound) c at (live, reached) in
         let crossed = (walk_keeps reachable_is.1 walks).each_way none in
         ((crossed (socket_of c.near)).1 near, (crossed (socket_of c.far)).1 far)
 

@@ -43,29 +43,29 @@ module _ {Row : Type 0} (N : Network Row) where
 
       -- ---- every way
 
-      pub run-once : {k : Packet} {way : List Dart} → Run N s d k way → Once way
-      run-once r = (held r).moved.once
+      pub run_once : {k : Packet} {way : List Dart} → Run N s d k way → Once way
+      run_once r = (held r).moved.once
 
-      pub run-chain : {k : Packet} {way : List Dart} → Run N s d k way → Chain N s k.at way
-      run-chain r = (held r).moved.chain
+      pub run_chain : {k : Packet} {way : List Dart} → Run N s d k way → Chain N s k.at way
+      run_chain r = (held r).moved.chain
 
-      pub run-live : {k : Packet} {way : List Dart} → Run N s d k way → All (λ e. Live N e × Reached N s e.switch) way
-      run-live {k} {way} r = chain_due N s k.at way (held r).moved.chain (held r).moved.live
+      pub run_live : {k : Packet} {way : List Dart} → Run N s d k way → All (λ e. Live N e × Reached N s e.switch) way
+      run_live {k} {way} r = chain_due N s k.at way (held r).moved.chain (held r).moved.live
 
-      pub run-reached : {k : Packet} {way : List Dart} → Run N s d k way → Reached N s k.at
-      run-reached {k} {way} r = chain_reached N s k.at way (held r).moved.chain (held r).moved.live
+      pub run_reached : {k : Packet} {way : List Dart} → Run N s d k way → Reached N s k.at
+      run_reached {k} {way} r = chain_reached N s k.at way (held r).moved.chain (held r).moved.live
 
-      pub delivered-reached : {k : Packet} {way : List Dart} → Run N s d k way → k.at ≡ d → Reached N s d
-      delivered-reached r e = subst (Reached N s) e (run-reached r)
+      pub delivered_reached : {k : Packet} {way : List Dart} → Run N s d k way → k.at ≡ d → Reached N s d
+      delivered_reached r e = subst (Reached N s) e (run_reached r)
 
       -- ---- what the packet carries
 
-      pub run-zero : {k : Packet} {way : List Dart} → Run N s d k way → way ≡ [] → (w : ℕ) → (k.parent w ≡ 0) × (k.current w ≡ 0)
-      run-zero (start home arrival parents currents) e w = (parents w, currents w)
-      run-zero (hop r away chosen h) e w = absurd (cons≢nil e)
+      pub run_zero : {k : Packet} {way : List Dart} → Run N s d k way → way ≡ [] → (w : ℕ) → (k.parent w ≡ 0) × (k.current w ≡ 0)
+      run_zero (start home arrival parents currents) e w = (parents w, currents w)
+      run_zero (hop r away chosen h) e w = absurd (cons≢nil e)
 
-      pub run-sane : {k : Packet} {way : List Dart} → Run N s d k way → Sane k way
-      run-sane {k} {way} r = record { arrival = arrival r; current = λ w. ((held r).moved.sites w).tried; parent = parent r }
+      pub run_sane : {k : Packet} {way : List Dart} → Run N s d k way → Sane k way
+      run_sane {k} {way} r = record { arrival = arrival r; current = λ w. ((held r).moved.sites w).tried; parent = parent r }
         where
           arrival : {k : Packet} {way : List Dart} → Run N s d k way → ((k.arrival ≡ 0) × (way ≡ [])) ⊎ Live N (dart k.at k.arrival)
           arrival (start home none parents currents) = inl (none, refl)
@@ -85,37 +85,37 @@ module _ {Row : Type 0} (N : Network Row) where
       -- ---- how long a way is
 
       -- no hop is made at the destination
-      never-there : {k : Packet} {way : List Dart} → Run N s d k way → (e : Dart) → e ∈ way → e.switch ≡ d → ⊥
-      never-there (start home arrival parents currents) e m there = m
-      never-there (hop r away chosen h) e (inl q) there = away (sym (ap (λ x. x.switch) q) ∙ there)
-      never-there (hop r away chosen h) e (inr m) there = never-there r e m there
+      never_there : {k : Packet} {way : List Dart} → Run N s d k way → (e : Dart) → e ∈ way → e.switch ≡ d → ⊥
+      never_there (start home arrival parents currents) e m there = m
+      never_there (hop r away chosen h) e (inl q) there = away (sym (ap (λ x. x.switch) q) ∙ there)
+      never_there (hop r away chosen h) e (inr m) there = never_there r e m there
 
-      pub run-bound : {k : Packet} {way : List Dart} {m : ℕ} → Run N s d k way → Counted N s N.rows m → length way ≤ 2 * m
-      run-bound {way} r c = at_most N s L c way (run-once r) (run-live r)
+      pub run_bound : {k : Packet} {way : List Dart} {m : ℕ} → Run N s d k way → Counted N s N.rows m → length way ≤ 2 * m
+      run_bound {way} r c = at_most N s L c way (run_once r) (run_live r)
 
       -- the port of arrival at the destination is never left by
-      pub delivered-bound : {k : Packet} {way : List Dart} {m : ℕ} → Run N s d k way → k.at ≡ d → (d ≡ s → ⊥) → Counted N s N.rows m
+      pub delivered_bound : {k : Packet} {way : List Dart} {m : ℕ} → Run N s d k way → k.at ≡ d → (d ≡ s → ⊥) → Counted N s N.rows m
           → length way + 1 ≤ 2 * m
-      delivered-bound {k} {way} {m} r there far c = by (run-sane r).arrival
+      delivered_bound {k} {way} {m} r there far c = by (run_sane r).arrival
         where
           by : ((k.arrival ≡ 0) × (way ≡ [])) ⊎ Live N (dart k.at k.arrival) → length way + 1 ≤ 2 * m
-          by (inl (z, e)) = absurd (far (sym there ∙ subst (Chain N s k.at) e (run-chain r)))
+          by (inl (z, e)) = absurd (far (sym there ∙ subst (Chain N s k.at) e (run_chain r)))
           by (inr live) =
               omega (
                 arith,
                 at_most N s L c (dart k.at k.arrival ∷ way)
-                    (λ m. never-there r (dart k.at k.arrival) m there, run-once r)
-                    ((live, run-reached r), run-live r),
+                    (λ m. never_there r (dart k.at k.arrival) m there, run_once r)
+                    ((live, run_reached r), run_live r),
               )
 
       -- ---- the end
 
-      pub none-home : {k : Packet} {way : List Dart} → Run N s d k way → (k.at ≡ d → ⊥) → ChosenAt N k stays → NoneHome s d k way
-      none-home {k} {way} r away chosen =
+      pub none_home : {k : Packet} {way : List Dart} → Run N s d k way → (k.at ≡ d → ⊥) → ChosenAt N k stays → NoneHome s d k way
+      none_home {k} {way} r away chosen =
           record {
             home = end.0;
-            crossed = λ e. (all_at (Due N s) way e (run-live r), due e);
-            size = λ m c. omega (arith, run-bound r c, at_least N s L c way due);
+            crossed = λ e. (all_at (Due N s) way e (run_live r), due e);
+            size = λ m c. omega (arith, run_bound r c, at_least N s L c way due);
             unreached = λ t. unreached d t refl;
           }
         where
@@ -129,23 +129,23 @@ module _ {Row : Type 0} (N : Network Row) where
           unreached w here e = away (end.0 ∙ e)
           unreached w (along {v = u} t p l) e =
               let far = N.far (dart u p) in
-              never-there r far (due far (far_live N L (dart u p) l, along t p l)) e
+              never_there r far (due far (far_live N L (dart u p) l, along t p l)) e
 
-      pub reached-delivered : {k : Packet} {way : List Dart} → Reached N s d → Run N s d k way → ChosenAt N k stays → (k.at ≡ d → ⊥) → ⊥
-      reached-delivered t r chosen away = (none-home r away chosen).unreached t
+      pub reached_delivered : {k : Packet} {way : List Dart} → Reached N s d → Run N s d k way → ChosenAt N k stays → (k.at ≡ d → ⊥) → ⊥
+      reached_delivered t r chosen away = (none_home r away chosen).unreached t
 
     pub home : {s : ℕ} {k : Packet} {way : List Dart} → Run N s s k way → way ≡ []
     home (start at arrival parents currents) = refl
-    home {s} (hop {k} r away chosen h) = absurd (away (subst (Chain N s k.at) (home r) (run-chain r)))
+    home {s} (hop {k} r away chosen h) = absurd (away (subst (Chain N s k.at) (home r) (run_chain r)))
 
     -- a walk to a switch finds out whether it is reached
     pub reached? : (s w : ℕ) → Dec (Reached N s w)
     reached? s w = let (k, way, r, end) = run_ends N L s w in by k way r (ℕ_discrete k.at w) end
       where
         by : (k : Packet) (way : List Dart) → Run N s w k way → Dec (k.at ≡ w) → (k.at ≡ w) ⊎ ChosenAt N k stays → Dec (Reached N s w)
-        by k way r (yes e) end = yes (delivered-reached r e)
+        by k way r (yes e) end = yes (delivered_reached r e)
         by k way r (no n) (inl e) = absurd (n e)
-        by k way r (no n) (inr chosen) = no (none-home r n chosen).unreached
+        by k way r (no n) (inr chosen) = no (none_home r n chosen).unreached
 
     pub counted_is : (s : ℕ) → (m : ℕ) × Counted N s N.rows m
     counted_is s = counted N s (reached? s) N.rows

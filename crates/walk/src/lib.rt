@@ -1,2 +1,4 @@
 // The walk: steps until an end.
+#![tactic(auto)]
+
 pub mod walk;

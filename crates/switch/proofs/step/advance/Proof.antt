@@ -6,7 +6,7 @@ use borrow.Author.Rules.{rules}
 use Rattle.sheet.specs.Order.{cables_at}
 use Rattle.sheet.specs.declared.cables.Cable.{Cable}
 use Rattle.switch.specs.Cell.{CellFits, cell_of, with_cell, entered}
-use Rattle.switch.proofs.Moving.{entered_fits, left_fits, stored_fits, at_destination, goes-nowhere, goes_by}
+use Rattle.switch.proofs.Moving.{entered_fits, left_fits, stored_fits, at_destination, goes_nowhere, goes_by}
 use Rattle.switch.proofs.step.advance.Statement.{statement}
 use Rattle.switch.proofs.step.advance.Tie as tie
 
@@ -80,7 +80,7 @@ returns-2 c =
     let here = picked.before in
     let a = start here in
     let says = c.stopped2.ensures in
-    goes-nowhere (order a) (faults a) (tag a) (v a) (arrival a) (d a) here.before.before.before.if1.false (entry here)
+    goes_nowhere (order a) (faults a) (tag a) (v a) (arrival a) (d a) here.before.before.before.if1.false (entry here)
     picked.choose.ensures.0 c.stopped2.result c.before.enum_told.given.1 says.0 says.1
 
 left-by-requires : tie.Need-left-by-requires

@@ -8,14 +8,14 @@ use Rattle.sheet.specs.Cables.{rows_of}
 use Rattle.walk.proofs.Carrying.{
   Carrying,
   carrying_starts,
-  switch-small,
+  switch_small,
   ready,
-  tag-size,
-  trace-size,
+  tag_size,
+  trace_size,
   walk_ends,
   HopRoom,
-  hop-room,
-  carrying-on,
+  hop_room,
+  carrying_on,
 }
 use Rattle.walk.proofs.walk.carry.Statement.{statement}
 use Rattle.walk.proofs.walk.carry.Tie as tie
@@ -39,7 +39,7 @@ room : (c : lts.After-go
     p.before.before.loop.trace c.go.given.0.0.0 p.before.before.loop.hops
 room c =
     let p = c.before.before.before.before in
-    hop-room p.before.before.loop.invariant p.move-on.result p.move-on.ensures
+    hop_room p.before.before.loop.invariant p.move-on.result p.move-on.ensures
     c.go.given.1
 
 loop-holds : tie.Need-loop-init invariant-loop decreases-loop
@@ -60,10 +60,10 @@ ended-requires c κs = tt
 same_length : tie.Need-same-length invariant-loop decreases-loop
 same_length c =
     let p = c.before.before.before.before.before in
-    p.move-on.auto.1.1.0 ∙ tag-size p.before.before.loop.invariant
+    p.move-on.auto.1.1.0 ∙ tag_size p.before.before.loop.invariant
 
 same-length-2 : tie.Need-same-length-2 invariant-loop decreases-loop
-same-length-2 c = trace-size c.before.before.before.before.before.before.before.loop.invariant
+same-length-2 c = trace_size c.before.before.before.before.before.before.before.loop.invariant
 
 returns : tie.Need-returns invariant-loop decreases-loop
 returns c =
@@ -80,10 +80,10 @@ ended-requires-2 c κs = tt
 same-length-3 : tie.Need-same-length-3 invariant-loop decreases-loop
 same-length-3 c =
     let p = c.before.before.before.before.before in
-    p.move-on.auto.1.1.0 ∙ tag-size p.before.before.loop.invariant
+    p.move-on.auto.1.1.0 ∙ tag_size p.before.before.loop.invariant
 
 same-length-4 : tie.Need-same-length-4 invariant-loop decreases-loop
-same-length-4 c = trace-size c.before.before.before.before.before.before.before.loop.invariant
+same-length-4 c = trace_size c.before.before.before.before.before.before.before.loop.invariant
 
 returns-2 : tie.Need-returns-2 invariant-loop decreases-loop
 returns-2 c =
@@ -93,7 +93,7 @@ returns-2 c =
 
 cast-trace : tie.Need-overflow-cast-trace invariant-loop decreases-loop
 cast-trace c =
-    record { fits = switch-small c.before.before.before.before.before.before.before.before.loop.invariant }
+    record { fits = switch_small c.before.before.before.before.before.before.before.before.loop.invariant }
 
 mul-trace : tie.Need-overflow-mul-trace invariant-loop decreases-loop
 mul-trace c = let h = room c.before.before in record { fits = omega arith }
@@ -123,7 +123,7 @@ loop-again : tie.Need-loop-preserved invariant-loop decreases-loop
 loop-again c =
     let go = c.before.before.before.before.before.before in
     let p = go.before.before.before.before in
-    carrying-on p.before.before.loop.invariant p.move-on.result p.move-on.ensures
+    carrying_on p.before.before.loop.invariant p.move-on.result p.move-on.ensures
     go.go.given.1
 
 pub carry-spec : {M : Type 1} → statement M

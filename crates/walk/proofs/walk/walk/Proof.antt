@@ -3,13 +3,13 @@ use native.Mathlib.Omega.{arith}
 use borrow.Author.Rules.{rules}
 use Rattle.walk.proofs.Answering.{
   lists_turn_away,
-  switches-turn-away,
-  tag-turn-away,
-  trace-turn-away,
+  switches_turn_away,
+  tag_turn_away,
+  trace_turn_away,
   few,
   tag_fits,
-  ready-to-carry,
-  carried-through,
+  ready_to_carry,
+  carried_through,
 }
 use Rattle.walk.proofs.walk.walk.Statement.{statement}
 use Rattle.walk.proofs.walk.walk.Tie as tie
@@ -57,7 +57,7 @@ returns-2 c =
     let switches = c.before.before.before.before in
     let lists = switches.before.before.before.before in
     let a = lists.before.before.before.before.before.args in
-    switches-turn-away a.sheet.now a.faults.now a.tag.now a.trace.now a.source.0 a.destination.0
+    switches_turn_away a.sheet.now a.faults.now a.tag.now a.trace.now a.source.0 a.destination.0
     lists.check-faults.ensures switches.before.before.lists.given.1 switches.check-switches.ensures
     c.refused2.result c.before.before.enum-told3.given.1 c.before.number.ensures c.refused2.ensures
 
@@ -85,7 +85,7 @@ returns-3 c =
     let switches = tag.before.before.before.before in
     let lists = switches.before.before.before.before in
     let a = lists.before.before.before.before.before.args in
-    tag-turn-away a.sheet.now a.faults.now a.tag.now a.trace.now a.source.0 a.destination.0
+    tag_turn_away a.sheet.now a.faults.now a.tag.now a.trace.now a.source.0 a.destination.0
     lists.check-faults.ensures switches.before.before.lists.given.1 switches.check-switches.ensures
     tag.before.before.enum-told2.given.1 tag.check-tag.ensures
     c.refused3.result c.before.before.enum-told5.given.1 c.before.number2.ensures c.refused3.ensures
@@ -118,7 +118,7 @@ returns-4 c =
     let switches = tag.before.before.before.before in
     let lists = switches.before.before.before.before in
     let a = lists.before.before.before.before.before.args in
-    trace-turn-away a.sheet.now a.faults.now a.tag.now a.trace.now a.source.0 a.destination.0
+    trace_turn_away a.sheet.now a.faults.now a.tag.now a.trace.now a.source.0 a.destination.0
     lists.check-faults.ensures switches.before.before.lists.given.1 switches.check-switches.ensures
     tag.before.before.enum-told2.given.1 tag.check-tag.ensures
     trace.before.before.enum-told4.given.1 trace.check-trace.ensures
@@ -158,7 +158,7 @@ carry-requires c κs =
     let switches = tag.before.before.before.before in
     let lists = switches.before.before.before.before in
     let a = lists.before.before.before.before.before.args in
-    ready-to-carry a.sheet.now a.faults.now a.tag.now a.trace.now a.source.0 a.destination.0
+    ready_to_carry a.sheet.now a.faults.now a.tag.now a.trace.now a.source.0 a.destination.0
     lists.check-faults.ensures switches.before.before.lists.given.1 switches.check-switches.ensures
     tag.before.before.enum-told2.given.1 tag.check-tag.ensures
     trace.before.before.enum-told4.given.1 trace.check-trace.ensures
@@ -179,7 +179,7 @@ returns-5 c =
     let switches = tag.before.before.before.before in
     let lists = switches.before.before.before.before in
     let a = lists.before.before.before.before.before.args in
-    carried-through a.sheet.now a.faults.now a.tag.now a.trace.now a.source.0 a.destination.0
+    carried_through a.sheet.now a.faults.now a.tag.now a.trace.now a.source.0 a.destination.0
     lists.check-faults.ensures switches.before.before.lists.given.1 switches.check-switches.ensures
     tag.before.before.enum-told2.given.1 tag.check-tag.ensures
     trace.before.before.enum-told4.given.1 trace.check-trace.ensures
