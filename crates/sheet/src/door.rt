@@ -1,4 +1,4 @@
-// The faulty row for a host program in C.
+// The faulty row as one number, for a host program in C; the crate `sheet_c` exports it.
 ghost use Rattle.std.specs.Prelude.{◌≡◌, ◌≤◌};
 ghost use Rattle.sheet.specs.FaultyRow.{packed, part_number, faulty_part};
 
@@ -20,8 +20,7 @@ fn pack(list: u64, start: usize, size: usize) -> u64
     TOO_LONG
 }
 
-#[unsafe(no_mangle)]
-pub extern "C" fn sheet_faulty_row(sheet: &[u8], faults: &[u8]) -> u64
+pub fn sheet_faulty_row(sheet: &[u8], faults: &[u8]) -> u64
     ensures { result ≡ part_number (faulty_part sheet.now faults.now) }
 {
     let part = faulty_part(sheet, faults);

@@ -16,7 +16,6 @@ use Rattle.switch.specs.Answers.{move_paper}
 use Rattle.switch.specs.Step.{Stepped, nowhere, far_of, moved, advanced, away_of, told_move}
 use Rattle.switch.specs.declared.cell.Cell.{Cell}
 use Rattle.switch.specs.declared.choice.Choice.{Choice}
-use Rattle.switch.specs.declared.choice.Choice.TheVariants as Choice
 use Rattle.switch.specs.declared.step.Moved.{Moved}
 use Rattle.switch.specs.declared.step.Move.TheVariants.{Leaves, Delivered, Nowhere}
 

@@ -12,7 +12,6 @@ use Rattle.switch.specs.declared.step.Answer.{Answer}
 use Rattle.switch.specs.declared.step.Moved.{Moved}
 use Rattle.switch.specs.declared.step.Move.{Move}
 use Rattle.switch.specs.declared.step.Move.TheVariants.{Leaves, Nowhere}
-use Rattle.switch.specs.declared.step.Move.TheVariants as Move
 use Rattle.switch.specs.declared.step.Out.{Out}
 use Rattle.switch.specs.declared.step.Out.TheVariants.{Forwarded, Delivered, None, Refused}
 

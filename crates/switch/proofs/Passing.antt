@@ -14,7 +14,6 @@ use Rattle.sheet.specs.Order.{port_order, is_cabled, is_live}
 use Rattle.sheet.specs.Refusals.{accepted, refused, list_answer, answer_of}
 use Rattle.sheet.specs.declared.cables.Cable.{Cable}
 use Rattle.sheet.specs.declared.check.Checked.{Checked}
-use Rattle.sheet.specs.declared.check.Checked.TheVariants as Checked
 use Rattle.sheet.proofs.Lists.{both_true}
 use Rattle.sheet.proofs.Rows.{decides_within}
 use Rattle.sheet.proofs.Cabling.{position_found, ends_apart}

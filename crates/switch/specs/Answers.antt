@@ -4,7 +4,6 @@ use Rattle.switch.specs.declared.step.Out.{Out}
 use Rattle.switch.specs.declared.step.Out.TheVariants.{Forwarded, Delivered, None, Refused}
 use Rattle.switch.specs.declared.step.Move.{Move}
 use Rattle.switch.specs.declared.step.Move.TheVariants.{Leaves, Nowhere}
-use Rattle.switch.specs.declared.step.Move.TheVariants as Move
 
 -- the end (0 forwarded, 1 delivered, 2 none, 3 refused), the port by which the packet leaves, the refusal number
 pub record Paper : Type 0 where

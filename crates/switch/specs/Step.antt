@@ -13,7 +13,6 @@ use Rattle.switch.specs.Checks.{checks}
 use Rattle.sheet.specs.declared.order.FarEnd.{FarEnd}
 use Rattle.sheet.specs.declared.check.Checked.{Checked}
 use Rattle.sheet.specs.declared.check.Checked.TheVariants.{Accepted}
-use Rattle.sheet.specs.declared.check.Checked.TheVariants as Checked
 use Rattle.switch.specs.declared.cell.Cell.{Cell}
 use Rattle.switch.specs.declared.step.Answer.{Answer as StepAnswer}
 use Rattle.switch.specs.declared.step.Moved.{Moved}

@@ -5,7 +5,7 @@ ghost use Rattle.switch.specs.Cell.{CellInside, CellFits, cell_of, with_cell, en
 use sheet::numbers::{Port, Switch};
 
 // The port by which the packet first came in, and the port by which it last left; 0 is no port.
-#[derive(Drop)]
+#[derive(Clone, Copy, Drop)]
 pub struct Cell {
     pub parent: Port,
     pub current: Port,

@@ -10,7 +10,7 @@ use sheet::numbers::{Port, Switch};
 use sheet::order::{is_cabled, is_live};
 
 // What a check comes to.
-#[derive(Drop)]
+#[derive(Clone, Copy, Drop)]
 pub enum Check {
     Passed,
     Refused(u64),

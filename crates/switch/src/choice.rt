@@ -12,7 +12,7 @@ use sheet::numbers::{Port, Position};
 use sheet::order::{cable, position};
 
 // The packet leaves by the first port, and the second is the current port from then on; or it stays.
-#[derive(Drop)]
+#[derive(Clone, Copy, Drop)]
 pub enum Choice {
     Leaves(Port, Port),
     Stays,

@@ -1,4 +1,4 @@
-// The door for C: the step on bare numbers and byte slices, its answer as one number.
+// The door for C: the step on bare numbers and byte slices, its answer as one number; the crate `switch_c` exports it.
 ghost use Rattle.std.specs.Prelude.{◌≡◌, ◌≤◌};
 ghost use Rattle.switch.specs.Answers.{paper_of, door_number};
 ghost use Rattle.switch.specs.Step.{stepped};
@@ -23,8 +23,7 @@ fn number_of(out: Out) -> u64
 }
 
 // One step for a host program in C. All 64-bit numbers are answered: a number past the switches is refused, and is no other switch.
-#[unsafe(no_mangle)]
-pub extern "C" fn switch_step(
+pub fn switch_step(
     present: u64,
     arrival: u64,
     destination: u64,

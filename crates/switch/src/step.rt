@@ -12,7 +12,7 @@ use sheet::numbers::{Port, Switch};
 use sheet::order::{FarEnd, far_end, port_order};
 
 // How a step ends.
-#[derive(Drop)]
+#[derive(Clone, Copy, Drop)]
 pub enum Out {
     Forwarded(Port),
     Delivered,
@@ -21,14 +21,14 @@ pub enum Out {
 }
 
 // The end of a step, and the far end of the cable that the packet leaves by (switch 0 and port 0 where it leaves by none).
-#[derive(Drop)]
+#[derive(Clone, Copy, Drop)]
 pub struct Answer {
     pub out: Out,
     pub far: FarEnd,
 }
 
 // How a step ends that has passed the checks.
-#[derive(Drop)]
+#[derive(Clone, Copy, Drop)]
 pub enum Move {
     Leaves(Port),
     Delivered,
@@ -36,7 +36,7 @@ pub enum Move {
 }
 
 // The same of a step that has passed the checks.
-#[derive(Drop)]
+#[derive(Clone, Copy, Drop)]
 pub struct Moved {
     pub go: Move,
     pub far: FarEnd,

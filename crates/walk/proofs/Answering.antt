@@ -12,7 +12,6 @@ use borrow.Author.Tests.{leb-true}
 use Rattle.sheet.specs.Cables.{switches_of}
 use Rattle.sheet.specs.Refusals.{answer_of, accepted, refused, list_answer}
 use Rattle.sheet.specs.declared.check.Checked.{Checked}
-use Rattle.sheet.specs.declared.check.Checked.TheVariants as Checked
 use Rattle.switch.specs.Checks.{number_of, rule, switches_rule, tag_rule}
 use Rattle.switch.specs.Step.{lists_number}
 use Rattle.switch.specs.declared.checks.Check.{Check}

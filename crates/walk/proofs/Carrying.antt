@@ -16,7 +16,6 @@ use Rattle.switch.specs.Step.{Ready, told_move, advanced}
 use Rattle.switch.specs.declared.step.Moved.{Moved}
 use Rattle.sheet.specs.declared.numbers.Port.{Port}
 use Rattle.switch.specs.declared.step.Move.{Move}
-use Rattle.switch.specs.declared.step.Move.TheVariants as Move
 use Rattle.switch.proofs.Advancing.{followed_by, longer_tag, advanced_keeps}
 use Rattle.walk.specs.Network.{Dart}
 use Rattle.walk.specs.Walk.{Packet, step_of, carried, sent, Way, paper, paper_of, trace_bytes, result_of, ended_with, Walks, arrives}

@@ -30,15 +30,18 @@ module _ {Row : Type 0} (N : Network Row) where
   entries way = map N.far way
 
   row_of : (rs : List Row) (e : Dart) → e ∈ ends_of N rs → (r : Row) × (r ∈ rs) × ((e ≡ N.one r) ⊎ (e ≡ N.other r))
+  row_of [] e at = elim at [ ]
   row_of (r ∷ rs) e (inl q) = (r, inl refl, inl q)
   row_of (r ∷ rs) e (inr (inl q)) = (r, inl refl, inr q)
   row_of (r ∷ rs) e (inr (inr m)) = let (r', l, q) = row_of rs e m in (r', inr l, q)
 
   pub one_in : (rs : List Row) (r : Row) → r ∈ rs → N.one r ∈ ends_of N rs
+  one_in [] r at = elim at [ ]
   one_in (x ∷ rs) r (inl q) = inl (ap N.one q)
   one_in (x ∷ rs) r (inr m) = inr (inr (one_in rs r m))
 
   pub other_in : (rs : List Row) (r : Row) → r ∈ rs → N.other r ∈ ends_of N rs
+  other_in [] r at = elim at [ ]
   other_in (x ∷ rs) r (inl q) = inr (inl (ap N.other q))
   other_in (x ∷ rs) r (inr m) = inr (inr (other_in rs r m))
 
@@ -55,9 +58,9 @@ module _ {Row : Type 0} (N : Network Row) where
       where
         by : (r : Row) → r ∈ N.rows → (e ≡ N.one r) ⊎ (e ≡ N.other r) → Paired e
         by r m (inl q) =
-            across e (N.one r) (N.other r) q (L.far_one r m) (L.far_other r m) (L.Live-both r m) (other_in N.rows r m)
+            across e (N.one r) (N.other r) q (L.far_one r m) (L.far_other r m) (L.live_both r m) (other_in N.rows r m)
         by r m (inr q) =
-            across e (N.other r) (N.one r) q (L.far_other r m) (L.far_one r m) (sym (L.Live-both r m)) (one_in N.rows r m)
+            across e (N.other r) (N.one r) q (L.far_other r m) (L.far_one r m) (sym (L.live_both r m)) (one_in N.rows r m)
 
     pub far_far : (e : Dart) → Live N e → N.far (N.far e) ≡ e
     far_far e l = (paired e l.0).0
@@ -66,10 +69,12 @@ module _ {Row : Type 0} (N : Network Row) where
     far_live e l = ((paired e l.0).1, (paired e l.0).2 ∙ l.1)
 
     pub entry_live : (way : List Dart) → All (Live N) way → (y : Dart) → y ∈ entries way → Live N y
+    entry_live [] a y at = elim at [ ]
     entry_live (e ∷ way) a y (inl q) = subst (Live N) (sym q) (far_live e a.0)
     entry_live (e ∷ way) a y (inr m) = entry_live way a.1 y m
 
     pub entry_left : (way : List Dart) → All (Live N) way → (y : Dart) → y ∈ entries way → N.far y ∈ way
+    entry_left [] a y at = elim at [ ]
     entry_left (e ∷ way) a y (inl q) = inl (ap N.far q ∙ far_far e a.0)
     entry_left (e ∷ way) a y (inr m) = inr (entry_left way a.1 y m)
 

@@ -34,6 +34,7 @@ module _ {A : Type 0} where
   -- ---- a list from its other end
 
   pub reverse_in : (xs : List A) (x : A) → x ∈ reverse xs → x ∈ xs
+  reverse_in [] x m = elim m [ ]
   reverse_in (y ∷ xs) x m = by (append_in (reverse xs) (y ∷ []) x (rw reverse-cons at m)) (λ l. reverse_in xs x l)
     where
       by : (x ∈ reverse xs) ⊎ (x ∈ (y ∷ [])) → (x ∈ reverse xs → x ∈ xs) → x ∈ (y ∷ xs)
@@ -75,16 +76,19 @@ module _ {A : Type 0} where
   count p (x ∷ xs) = tick (p x) + count p xs
 
   without : (x : A) (ys : List A) → x ∈ ys → List A
+  without x [] at = elim at [ ]
   without x (y ∷ ys) (inl e) = ys
   without x (y ∷ ys) (inr m) = y ∷ without x ys m
 
   count_without : (p : A → Bool) (x : A) (ys : List A) (m : x ∈ ys) → count p ys ≡ tick (p x) + count p (without x ys m)
   unfolding without
+  count_without p x [] m = elim m [ ]
   count_without p x (y ∷ ys) (inl e) = ap (λ z. tick (p z) + count p ys) (sym e)
   count_without p x (y ∷ ys) (inr m) = omega (arith, count_without p x ys m)
 
   others_stay : (x z : A) (ys : List A) (m : x ∈ ys) → (z ≡ x → ⊥) → z ∈ ys → z ∈ without x ys m
   unfolding without
+  others_stay x z [] m n _ = elim m [ ]
   others_stay x z (y ∷ ys) (inl e) n (inl q) = absurd (n (q ∙ sym e))
   others_stay x z (y ∷ ys) (inl e) n (inr l) = l
   others_stay x z (y ∷ ys) (inr m) n (inl q) = inl q

@@ -7,7 +7,6 @@ use native.Mathlib.Omega.{arith}
 use native.Mathlib.Decide.{ℕ_discrete}
 use native.Mathlib.Numerals.{add-one}
 use lib.ListN.{length, length-append}
-use Rattle.switch.specs.declared.checks.Check.TheVariants.{Refused}
 use Rattle.walk.specs.Walk.{Packet, step_of, carried, sent, Way, Paper, ended, paper_of, Result, result_of, refused_with, ended_with}
 use Rattle.walk.specs.Walk.{Walks, turned_away, arrives}
 use Rattle.walk.specs.declared.walk.End.{End}

@@ -58,6 +58,7 @@ module _ {Row : Type 0} (N : Network Row) where
     kept_length (skipped n c) = kept_length c
 
     kept_end : {rs : List Row} {m : ℕ} (c : Counted N s rs m) (e : Dart) → e ∈ kept c → e ∈ ends_of N rs
+    kept_end nothing e m = elim m [ ]
     kept_end (counts l t c) e (inl q) = inl q
     kept_end (counts l t c) e (inr (inl q)) = inr (inl q)
     kept_end (counts l t c) e (inr (inr m)) = inr (inr (kept_end c e m))
@@ -79,13 +80,14 @@ module _ {Row : Type 0} (N : Network Row) where
           one = (L.end_cabled (N.one r) (one_in N N.rows r m), l)
 
           other : Live N (N.other r)
-          other = (L.end_cabled (N.other r) (other_in N N.rows r m), sym (L.Live-both r m) ∙ l)
+          other = (L.end_cabled (N.other r) (other_in N N.rows r m), sym (L.live_both r m) ∙ l)
 
           by : Reached N s (N.one r).switch ⊎ Reached N s (N.other r).switch → Due N s (N.one r) × Due N s (N.other r)
           by (inl a) = ((one, a), (other, subst (λ d. Reached N s d.switch) (L.far_one r m) (along a (N.one r).port one)))
           by (inr b) = ((one, subst (λ d. Reached N s d.switch) (L.far_other r m) (along b (N.other r).port other)), (other, b))
 
       kept_due : {rs : List Row} {m : ℕ} (c : Counted N s rs m) → ((r : Row) → r ∈ rs → r ∈ N.rows) → (e : Dart) → e ∈ kept c → Due N s e
+      kept_due nothing within e m = elim m [ ]
       kept_due (counts {r} l t c) within e (inl q) = subst (Due N s) (sym q) (counts_due r (within r (inl refl)) (l, t)).0
       kept_due (counts {r} l t c) within e (inr (inl q)) = subst (Due N s) (sym q) (counts_due r (within r (inl refl)) (l, t)).1
       kept_due (counts l t c) within e (inr (inr m)) = kept_due c (λ x k. within x (inr k)) e m
@@ -93,12 +95,13 @@ module _ {Row : Type 0} (N : Network Row) where
 
       due_kept : {rs : List Row} {m : ℕ} (c : Counted N s rs m) → ((r : Row) → r ∈ rs → r ∈ N.rows)
           → (e : Dart) → e ∈ ends_of N rs → Due N s e → e ∈ kept c
+      due_kept nothing within e at d = elim at [ ]
       due_kept (counts l t c) within e (inl q) d = inl q
       due_kept (counts l t c) within e (inr (inl q)) d = inr (inl q)
       due_kept (counts l t c) within e (inr (inr m)) d = inr (inr (due_kept c (λ x k. within x (inr k)) e m d))
       due_kept (skipped {r} n c) within e (inl q) d = absurd (n (sym (ap N.live q) ∙ d.0.1) (inl (rw q at d.1)))
       due_kept (skipped {r} n c) within e (inr (inl q)) d =
-          absurd (n (L.Live-both r (within r (inl refl)) ∙ sym (ap N.live q) ∙ d.0.1) (inr (rw q at d.1)))
+          absurd (n (L.live_both r (within r (inl refl)) ∙ sym (ap N.live q) ∙ d.0.1) (inr (rw q at d.1)))
       due_kept (skipped n c) within e (inr (inr m)) d = due_kept c (λ x k. within x (inr k)) e m d
 
       module _ {m : ℕ} (c : Counted N s N.rows m) (way : List Dart) where

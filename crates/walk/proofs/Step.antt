@@ -224,7 +224,7 @@ module _ {Row : Type 0} (N : Network Row) (s : ℕ) (L : Lawful N) where
           by : Root N s v (f v) (g v) (e ∷ way) → (v ≡ s) ⊎ (dart v (f' v) ∈ entries N (e ∷ way))
           by (inl (z, inl unset)) = absurd (n unset)
           by (inl (z, inr home)) = inl home
-          by (inr m) = inr (rw now m.0)
+          by (inr m) = inr (subst (λ p. dart v p ∈ entries N (e ∷ way)) (sym now) m.0)
 
       pub settle : f' v ≡ pick (eqb (g v) 0) (N.far e).port (f v) → Settled N s f' g v (e ∷ way)
       settle = by (eqb (g v) 0) refl

@@ -1,5 +1,5 @@
 // A packet's walk from its source to its end.
-ghost use Rattle.std.specs.Prelude.{◌≡◌, ◌++◌, ℕ, ◌*◌, ◌≤◌, take, drop, replicate};
+ghost use Rattle.std.specs.Prelude.{◌≡◌, ◌++◌, ℕ, ◌*◌, ◌≤◌, length, take, drop, replicate};
 ghost use Rattle.sheet.specs.Cables.{switches_of};
 ghost use Rattle.sheet.specs.Cabling.{order_at};
 ghost use Rattle.switch.specs.Step.{Ready, lists_number, told_move, advanced};
@@ -13,7 +13,7 @@ use switch::checks::{Check, check_switches, check_tag};
 use switch::step::{Move, Moved, advance};
 
 // How a walk ends.
-#[derive(Drop)]
+#[derive(Clone, Copy, Drop)]
 pub enum End {
     Delivered,
     None,
@@ -21,7 +21,7 @@ pub enum End {
 }
 
 // The end, the switch where it came, and the number of hops.
-#[derive(Drop)]
+#[derive(Clone, Copy, Drop)]
 pub struct Walked {
     pub end: End,
     pub switch: Switch,
@@ -68,7 +68,7 @@ fn check_trace(cables: u64, trace: &[u8]) -> Check
 
 // Zeros for the first bytes of the tag.
 fn clear(tag: &mut [u8], size: usize)
-    requires* { do ⌜ size ≤ (← ⟦tag.len()⟧) ⌝ }
+    requires { size ≤ length tag.old }
     ensures { tag.new ≡ replicate size 0 ++ drop size tag.old }
 {
     for i in 0..size {
