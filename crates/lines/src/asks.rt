@@ -6,7 +6,7 @@ use sheet::numbers::Switch;
 use sheet::records::{ASK, Found, byte_at, record_at};
 
 // What stands at a position of the asks.
-#[derive(Drop)]
+#[derive(Clone, Copy, Drop)]
 pub enum Ask {
     // Source and destination; the next ask begins here.
     Asked(Switch, Switch, usize),
