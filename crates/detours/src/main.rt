@@ -1,4 +1,8 @@
 // detours SHEET FAULTS ASKS: a line for each ask.
-fn main() {
-    desk::run(1);
+#![tactic(auto)]
+
+use std::io;
+
+fn main(rt: HostRuntime) -> io::Result<()> {
+    desk::run(&rt, 1)
 }

@@ -1,20 +1,21 @@
 // The program over one triple of arguments after another, with a line before each: the cases that one run of it cannot hold. The last two
 // triples lie partly and wholly past the arguments.
+#![tactic(auto)]
+
 ghost use Rattle.std.specs.Prelude.{◌≤◌};
 
-use libc::STDOUT_FILENO;
+use std::io;
 
-fn run_case(number: usize)
+fn run_case(rt: &HostRuntime, number: usize) -> io::Result<()>
     requires { (1 ≤ number) × (number ≤ 22) }
 {
-    io::write_all(STDOUT_FILENO, b"-- ");
-    io::print_decimal(STDOUT_FILENO, number as u64);
-    io::write_all(STDOUT_FILENO, b"\n");
-    desk::run(3 * number - 2);
+    println!(rt; "-- {number}")?;
+    desk::run(rt, 3 * number - 2)
 }
 
-fn main() {
+fn main(rt: HostRuntime) -> io::Result<()> {
     for number in 1..23 {
-        run_case(number);
+        run_case(&rt, number)?;
     }
+    Ok(())
 }
