@@ -33,7 +33,8 @@ pub fn put_number(line: &mut [u8], at: usize, number: u64) -> usize
     ensures puts { Puts line.old at (decimal number) line.new result }
     ensures upper_bound { result ≤ at + 20 }
 {
-    if number < 10 {
+    let is_digit = number < 10;
+    if is_digit {
         return put_byte(line, at, 48 + number as u8);
     }
     let last = put_number(line, at, number / 10);

@@ -74,7 +74,8 @@ fn read_rows(sheet: &[u8], n: u64, from: usize, used: &mut [u64; 64]) -> Told
                 return Told::Wrong(Rule::SheetForm, at, sheet.len() - at);
             }
             Found::Record(next) => {
-                if cables == 512 {
+                let is_full = cables == 512;
+                if is_full {
                     return Told::Wrong(Rule::SheetForm, at, next - at);
                 }
                 let c = cable_at(sheet, at);
@@ -130,7 +131,8 @@ pub fn read_faults(faults: &[u8], used: &[u64; 64]) -> Told
                 return Told::Wrong(Rule::FaultForm, at, faults.len() - at);
             }
             Found::Record(next) => {
-                if named == 512 {
+                let is_full = named == 512;
+                if is_full {
                     return Told::Wrong(Rule::FaultForm, at, next - at);
                 }
                 if !is_fault_cabled(faults, at, used) {

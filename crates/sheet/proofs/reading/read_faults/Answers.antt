@@ -25,13 +25,13 @@ unfolding fault_reading
 returns-in-CutShort c = λ rows marks.
     sym (ap told_of (through_cut _ _ _ _ _ _ (c.loop-next.invariant.1 rows marks).1 (sym c.in-CutShort.ensures)))
 
-pub overflow_sub-result-then-named-eq512 : goal.overflow_sub-result-then-named-eq512
-overflow_sub-result-then-named-eq512 c = let e = found_is fault _ _ (sym c.in-Record.ensures) in omega arith
+pub overflow_sub-result-then-is_full : goal.overflow_sub-result-then-is_full
+overflow_sub-result-then-is_full c = let e = found_is fault _ _ (sym c.in-Record.ensures) in omega arith
 
-pub returns-then-named-eq512 : goal.returns-then-named-eq512
+pub returns-then-is_full : goal.returns-then-is_full
 unfolding fault_reading
-returns-then-named-eq512 c = λ rows marks.
-    sym (ap told_of (through_full _ _ _ _ _ _ (c.loop-next.invariant.1 rows marks).1 (sym c.in-Record.ensures) c.if-named-eq512.true))
+returns-then-is_full c = λ rows marks.
+    sym (ap told_of (through_full _ _ _ _ _ _ (c.loop-next.invariant.1 rows marks).1 (sym c.in-Record.ensures) c.if-is_full.true))
 
 pub is_fault_cabled-requires : goal.is_fault_cabled-requires
 is_fault_cabled-requires c = (found_is fault _ _ (sym c.in-Record.ensures)).inside
@@ -44,13 +44,13 @@ unfolding fault_reading fault_rule
 returns-then-not-is_fault_cabled c = λ rows marks.
     let i = c.loop-next.invariant.1 rows marks in
     let uncabled = sym (c.is_fault_cabled.ensures rows marks) ∙ c.if-not-is_fault_cabled.true in
-    sym (ap told_of (through_breaks _ _ _ _ _ _ i.1 (sym c.in-Record.ensures) (lt_of_le-ne i.1.room c.if-named-eq512.false)
+    sym (ap told_of (through_breaks _ _ _ _ _ _ i.1 (sym c.in-Record.ensures) (lt_of_le-ne i.1.room c.if-is_full.false)
     (rw uncabled)))
 
 pub loop-next-preserved : goal.loop-next-preserved
 unfolding fault_rule
 loop-next-preserved c = let i = c.loop-next.invariant in
-    let below = lt_of_le-ne i.0 c.if-named-eq512.false in (
+    let below = lt_of_le-ne i.0 c.if-is_full.false in (
       omega arith,
       λ rows marks.
           let cabled = sym (c.is_fault_cabled.ensures rows marks) ∙ c.if-not-is_fault_cabled.false in

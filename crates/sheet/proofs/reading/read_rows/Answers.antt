@@ -33,12 +33,12 @@ returns-in-CutShort c = let i = c.loop-next.invariant in
     let e = through_cut _ _ _ _ _ _ i.1 (sym c.in-CutShort.ensures) in
     record { value = sym (ap told_of e); marks = λ rows r. never_right e r }
 
-pub overflow_sub-result-then-cables-eq512 : goal.overflow_sub-result-then-cables-eq512
-overflow_sub-result-then-cables-eq512 c = let e = found_is row _ _ (sym c.in-Record.ensures) in omega arith
+pub overflow_sub-result-then-is_full : goal.overflow_sub-result-then-is_full
+overflow_sub-result-then-is_full c = let e = found_is row _ _ (sym c.in-Record.ensures) in omega arith
 
-pub returns-then-cables-eq512 : goal.returns-then-cables-eq512
-returns-then-cables-eq512 c = let i = c.loop-next.invariant in
-    let e = through_full _ _ _ _ _ _ i.1 (sym c.in-Record.ensures) c.if-cables-eq512.true in
+pub returns-then-is_full : goal.returns-then-is_full
+returns-then-is_full c = let i = c.loop-next.invariant in
+    let e = through_full _ _ _ _ _ _ i.1 (sym c.in-Record.ensures) c.if-is_full.true in
     record { value = sym (ap told_of e); marks = λ rows r. never_right e r }
 
 pub overflow_sub-result-in-Breaks : goal.overflow_sub-result-in-Breaks
@@ -47,7 +47,7 @@ overflow_sub-result-in-Breaks c = let e = found_is row _ _ (sym c.in-Record.ensu
 pub returns-in-Breaks : goal.returns-in-Breaks
 returns-in-Breaks c = let i = c.loop-next.invariant in
     let b = sym (ap (row_rule c.args.n i.0) c.cable_at-c.ensures) ∙ sym (c.in-Breaks.ensures i.0 i.2) in
-    let e = through_breaks _ _ _ _ _ _ i.1 (sym c.in-Record.ensures) (lt_of_le-ne i.1.room c.if-cables-eq512.false) b in
+    let e = through_breaks _ _ _ _ _ _ i.1 (sym c.in-Record.ensures) (lt_of_le-ne i.1.room c.if-is_full.false) b in
     record { value = sym (ap told_of e); marks = λ rows r. never_right e r }
 
 pub use_cable-requires : goal.use_cable-requires
@@ -63,6 +63,6 @@ loop-next-preserved c = let i = c.loop-next.invariant in
     let n = c.args.n in
     let fine = sym (ap (row_rule n i.0) c.cable_at-c.ensures) ∙ sym (c.in_default.ensures i.0 i.2) in (
       i.0 ++ (cable_at c.args.sheet.now c.loop-next.at ∷ []),
-      through_fine _ _ _ _ _ _ i.1 (sym c.in-Record.ensures) (lt_of_le-ne i.1.room c.if-cables-eq512.false) fine,
+      through_fine _ _ _ _ _ _ i.1 (sym c.in-Record.ensures) (lt_of_le-ne i.1.room c.if-is_full.false) fine,
       subst (λ k. Marks c.use_cable.new.used (i.0 ++ (k ∷ []))) c.cable_at-c.ensures (c.use_cable.ensures i.0 i.2),
     )
