@@ -8,6 +8,7 @@ ghost use Rattle.desk.specs.Filled.{IsPrefixLen, Within};
 use lines::asks::{Ask, next_ask};
 use lines::lines::write_line;
 use sheet::numbers::Switch;
+use sheet::records::{ASK_SIZE, MOST_RECORDS, list_buffer, sheet_buffer};
 use std::env::Env;
 use std::fs::File;
 use std::io::{Print, Read};
@@ -82,7 +83,7 @@ fn next_piece(file: &mut File, window: &mut [u8]) -> usize
 }
 
 // The line for an ask. The buffers are as large as any accepted sheet and any line can ask for: 2 bytes of tag for each of 64 switches,
-// 4 bytes of trace for each of 512 cables.
+// 4 bytes of trace for each cable of the longest sheet.
 fn print_line(
     rt: &HostRuntime,
     sheet: &[u8],
@@ -91,7 +92,7 @@ fn print_line(
     destination: Switch,
 ) -> io::Result<()> {
     let mut tag = [0u8; 128];
-    let mut trace = [0u8; 2048];
+    let mut trace = [0u8; 4 * MOST_RECORDS];
     let mut line = [0u8; 8265];
     let n = write_line(
         sheet,
@@ -163,9 +164,9 @@ fn print_missing(rt: &HostRuntime) -> io::Result<()> {
 fn answer_file(rt: &HostRuntime, first: usize, file: &mut File) -> io::Result<()>
     requires { first ≤ 1000 }
 {
-    let mut sheet = [0u8; 3587];
-    let mut faults = [0u8; 1537];
-    let mut window = [0u8; 3];
+    let mut sheet = sheet_buffer();
+    let mut faults = list_buffer();
+    let mut window = [0u8; ASK_SIZE];
     let sheet_read = read_file(rt, first, &mut sheet);
     let faults_read = read_file(rt, first + 1, &mut faults);
     let asks_read = fill(file, &mut window);

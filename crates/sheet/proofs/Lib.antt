@@ -4,6 +4,7 @@ pub mod Tests
 pub mod Bytes
 pub mod Ends
 pub mod Scan
+pub mod Sizing
 pub mod Right
 pub mod Rows
 pub mod Sheet

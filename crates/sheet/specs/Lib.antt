@@ -1,5 +1,6 @@
 pub mod Lists
 pub mod Records
+pub mod Sizes
 pub mod Standing
 pub mod Cables
 pub mod Faults

@@ -5,10 +5,7 @@ ghost use Rattle.sheet.specs.Faults.{fault_at, faults_of, live};
 
 use crate::cables::Cable;
 use crate::numbers::{Port, Switch};
-use crate::records::{FAULT, Found, byte_at, record_at};
-
-// A fault list has at most this many records, and none after them counts.
-const MOST_FAULTS: usize = 512;
+use crate::records::{FAULT, Found, MOST_RECORDS, byte_at, record_at};
 
 // Whether the fault whose kind byte stands at a position names a port that carries an end of the cable.
 fn names(faults: &[u8], at: usize, c: Cable) -> bool
@@ -25,7 +22,7 @@ pub fn is_live(c: Cable, faults: &[u8]) -> bool
     ensures { result ≡ live (faults_of faults.now) c }
 {
     let mut at: usize = 0;
-    let mut room: usize = MOST_FAULTS;
+    let mut room: usize = MOST_RECORDS;
     while 0 < room {
         let found = record_at(faults, at, FAULT);
         let Found::Record(next) = found else {

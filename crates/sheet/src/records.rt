@@ -1,6 +1,7 @@
 // Records of the house format: one byte of kind, then a body whose length the kind fixes.
-ghost use Rattle.std.specs.Prelude.{◌≡◌, get_or};
+ghost use Rattle.std.specs.Prelude.{◌≡◌, ◌+◌, get_or, replicate};
 ghost use Rattle.sheet.specs.Records.{record_at, form_of};
+ghost use Rattle.sheet.specs.Sizes.{longest_sheet, longest_list};
 
 // Where a kind of record may stand.
 #[derive(Clone, Copy, Drop)]
@@ -46,6 +47,17 @@ pub const FORMS: [Form; 5] = [
         place: ASK,
     },
 ];
+
+// A sheet has at most this many cable rows and a fault list this many faults, and none after them counts.
+pub const MOST_RECORDS: usize = 512;
+
+// The longest sheet and the longest fault list, as the table gives them.
+const LONGEST_SHEET: usize = 1 + FORMS[1].body + (1 + FORMS[2].body) * MOST_RECORDS;
+
+const LONGEST_LIST: usize = (1 + FORMS[3].body) * MOST_RECORDS;
+
+// The size of an ask.
+pub const ASK_SIZE: usize = 1 + FORMS[4].body;
 
 // What the walker finds at a position.
 #[derive(Clone, Copy, Drop)]
@@ -94,4 +106,18 @@ pub fn record_at(bytes: &[u8], at: usize, place: Place) -> Found
     } else {
         Found::CutShort
     }
+}
+
+// Room for one byte more than the longest sheet has, so that a longer one shows.
+pub fn sheet_buffer() -> [u8; LONGEST_SHEET + 1]
+    ensures { result ≡ replicate (longest_sheet + 1) 0 }
+{
+    [0; LONGEST_SHEET + 1]
+}
+
+// The same for a fault list.
+pub fn list_buffer() -> [u8; LONGEST_LIST + 1]
+    ensures { result ≡ replicate (longest_list + 1) 0 }
+{
+    [0; LONGEST_LIST + 1]
 }
