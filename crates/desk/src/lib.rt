@@ -2,7 +2,7 @@
 // the asks and the line for each are the crate `lines`'s.
 #![tactic(auto)]
 
-ghost use Rattle.std.specs.Prelude.{◌≤◌, IfOk};
+ghost use Rattle.std.specs.Prelude.{◌≤◌};
 ghost use Rattle.desk.specs.Filled.{IsPrefixLen, Within};
 
 use lines::asks::{Ask, next_ask};
@@ -10,9 +10,9 @@ use lines::lines::write_line;
 use sheet::numbers::Switch;
 use sheet::records::{ASK_SIZE, MOST_RECORDS, list_buffer, sheet_buffer};
 use std::env::Env;
+use std::fs;
 use std::fs::File;
 use std::io::{Print, Read};
-use std::{fs, io};
 
 // How many bytes were read, or that a read failed.
 #[derive(Clone, Copy, Drop)]
@@ -82,15 +82,14 @@ fn next_piece(file: &mut File, window: &mut [u8]) -> usize
     }
 }
 
+// Prints bytes. What cannot be printed is passed over.
+fn print(rt: &HostRuntime, bytes: &[u8]) {
+    let _printed = rt.write_all(bytes).is_ok();
+}
+
 // The line for an ask. The buffers are as large as any accepted sheet and any line can ask for: 2 bytes of tag for each of 64 switches,
 // 4 bytes of trace for each cable of the longest sheet.
-fn print_line(
-    rt: &HostRuntime,
-    sheet: &[u8],
-    faults: &[u8],
-    source: Switch,
-    destination: Switch,
-) -> io::Result<()> {
+fn print_line(rt: &HostRuntime, sheet: &[u8], faults: &[u8], source: Switch, destination: Switch) {
     let mut tag = [0u8; 128];
     let mut trace = [0u8; 4 * MOST_RECORDS];
     let mut line = [0u8; 8265];
@@ -103,10 +102,10 @@ fn print_line(
         &mut trace,
         &mut line,
     );
-    rt.write_all(&line[..n])
+    print(rt, &line[..n]);
 }
 
-// Answers the ask in the window and reads the next one; 0 where the run ends. A line that cannot be printed is an error.
+// Answers the ask in the window and reads the next one; 0 where the run ends.
 fn answer(
     rt: &HostRuntime,
     file: &mut File,
@@ -114,21 +113,21 @@ fn answer(
     faults: &[u8],
     window: &mut [u8],
     n: usize,
-) -> io::Result<usize>
+) -> usize
     requires { IsPrefixLen n window.old }
-    ensures { IfOk result (λ next. IsPrefixLen next window.new) }
+    ensures { IsPrefixLen result window.new }
 {
     let ask = next_ask(&window[..n], 0);
     match ask {
         Ask::Asked(source, destination, _) => {
-            print_line(rt, sheet, faults, source, destination)?;
-            Ok(next_piece(file, window))
+            print_line(rt, sheet, faults, source, destination);
+            next_piece(file, window)
         }
         Ask::Broken => {
-            rt.write_all(b"asks broken\n")?;
-            Ok(0)
+            print(rt, b"asks broken\n");
+            0
         }
-        Ask::Ended => Ok(0),
+        Ask::Ended => 0,
     }
 }
 
@@ -141,27 +140,26 @@ fn answer_all(
     faults: &[u8],
     window: &mut [u8],
     first: usize,
-) -> io::Result<()>
+)
     requires { IsPrefixLen first window.old }
 {
     let mut n = first;
     let mut turns = u64::MAX;
     while turns > 0 && n > 0 {
-        n = answer(rt, file, sheet, faults, window, n)?;
+        n = answer(rt, file, sheet, faults, window, n);
         turns -= 1;
     }
-    Ok(())
 }
 
-fn print_missing(rt: &HostRuntime) -> io::Result<()> {
-    rt.write_all(b"file missing\n")
+fn print_missing(rt: &HostRuntime) {
+    print(rt, b"file missing\n");
 }
 
 // Sheet and fault list, then the asks of a file. All three are read before anything is printed, the asks as far as the window goes; what
 // is not named, not opened or not read is missing. One byte more than the longest accepted sheet and fault list is enough: what follows
 // changes nothing (`prefix_walks` of `lines`). The window holds one ask, which has three bytes, and shows it as the file does
 // (`window_asks`).
-fn answer_file(rt: &HostRuntime, first: usize, file: &mut File) -> io::Result<()>
+fn answer_file(rt: &HostRuntime, first: usize, file: Option<File>)
     requires { first ≤ 1000 }
 {
     let mut sheet = sheet_buffer();
@@ -169,37 +167,42 @@ fn answer_file(rt: &HostRuntime, first: usize, file: &mut File) -> io::Result<()
     let mut window = [0u8; ASK_SIZE];
     let sheet_read = read_file(rt, first, &mut sheet);
     let faults_read = read_file(rt, first + 1, &mut faults);
-    let asks_read = fill(file, &mut window);
+    let Some(mut asks) = file else {
+        print_missing(rt);
+        return;
+    };
+    let asks_read = fill(&mut asks, &mut window);
     let Filled::Bytes(sheet_size) = sheet_read else {
-        return print_missing(rt);
+        print_missing(rt);
+        return;
     };
     let Filled::Bytes(faults_size) = faults_read else {
-        return print_missing(rt);
+        print_missing(rt);
+        return;
     };
     let Filled::Bytes(n) = asks_read else {
-        return print_missing(rt);
+        print_missing(rt);
+        return;
     };
     answer_all(
         rt,
-        file,
+        &mut asks,
         &sheet[..sheet_size],
         &faults[..faults_size],
         &mut window,
         n,
-    )
+    );
 }
 
 // No program is given so many arguments. The bound keeps the numbers of the next two from wrapping.
 const MOST_ARGUMENTS: usize = 1000;
 
-// The program on three arguments, the first of which is given: sheet, fault list, asks. Arguments after them are not looked at. The error
-// is that of a line that could not be printed.
-pub fn run(rt: &HostRuntime, first: usize) -> io::Result<()> {
+// The program on three arguments, the first of which is given: sheet, fault list, asks. Arguments after them are not looked at.
+pub fn run(rt: &HostRuntime, first: usize) {
     if MOST_ARGUMENTS < first {
-        return print_missing(rt);
+        print_missing(rt);
+        return;
     }
-    let Some(mut file) = open(rt, first + 2) else {
-        return print_missing(rt);
-    };
-    answer_file(rt, first, &mut file)
+    let file = open(rt, first + 2);
+    answer_file(rt, first, file);
 }

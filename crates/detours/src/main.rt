@@ -1,8 +1,6 @@
 // detours SHEET FAULTS ASKS: a line for each ask.
 #![tactic(auto)]
 
-use std::io;
-
-fn main(rt: HostRuntime) -> io::Result<()> {
-    desk::run(&rt, 1)
+fn main(rt: HostRuntime) {
+    desk::run(&rt, 1);
 }

@@ -4,18 +4,15 @@
 
 ghost use Rattle.std.specs.Prelude.{◌≤◌};
 
-use std::io;
-
-fn run_case(rt: &HostRuntime, number: usize) -> io::Result<()>
+fn run_case(rt: &HostRuntime, number: usize)
     requires { (1 ≤ number) × (number ≤ 22) }
 {
-    println!(rt; "-- {number}")?;
-    desk::run(rt, 3 * number - 2)
+    let _printed = println!(rt; "-- {number}").is_ok();
+    desk::run(rt, 3 * number - 2);
 }
 
-fn main(rt: HostRuntime) -> io::Result<()> {
+fn main(rt: HostRuntime) {
     for number in 1..23 {
-        run_case(&rt, number)?;
+        run_case(&rt, number);
     }
-    Ok(())
 }
