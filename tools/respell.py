@@ -6,8 +6,8 @@ usage: python3 tools/respell.py            at the top of the repository, once, a
 A name of our own is one that a file of specs/ or a file right in proofs/ states: a definition, a lemma, a field, a constructor. Those that
 begin with a small letter and hold a capital or a dash are respelled, there and wherever they are cited: in specs/, in proofs/, in clauses
 and in `ghost use` lines. A capital letter that follows a small one begins a word, and a dash is a `_`; a lemma that would have the name of
-a definition gets `_lem`. Names of types, of functions of src/, of the library, and names that the kit makes (a dash joins their parts) stay. The script stops before it writes where two names would
-fall together, or where a name of ours is also one of the library's.
+a definition gets `_lem`. Names of types, of functions of src/, of the library, and names that the kit makes (a dash joins their parts) stay.
+The script stops before it writes where two names would fall together, or where a name of ours is also one of the library's.
 """
 
 import os

@@ -10,7 +10,7 @@ use lib.Dec.{leb}
 use borrow.Author.Tests.{leb-true, leb-false, eq-eqb}
 use Rattle.sheet.specs.Lists.{pick}
 use Rattle.sheet.specs.Records.{form, forms, form_of}
-use Rattle.sheet.specs.Sizes.{larger, size_at, longest_of, longest}
+use Rattle.sheet.specs.Sizes.{larger, size_at, longest_of, longest, longest_sheet, longest_list}
 use Rattle.sheet.specs.Standing.{Whole}
 use Rattle.sheet.specs.declared.records.Place.{Place}
 use Rattle.sheet.specs.declared.records.Form.{Form}
@@ -35,3 +35,8 @@ module _ (place : Place) (somewhere : 1 ≤ place.0) where
   pub whole_fits : {s : List ℕ} {at next : ℕ} → Whole place s at next → next ≤ at + longest place
   unfolding form_of longest
   whole_fits {s} {at} whole = omega (arith, entry_fits forms (get_or s at 0) whole.stands, whole.next_is)
+
+-- the sizes as numbers: one byte more is what the laws on prefixes take
+pub sizes : (longest_sheet ≡ 3586) × (longest_list ≡ 1536)
+unfolding longest longest_sheet longest_list
+sizes = (refl, refl)

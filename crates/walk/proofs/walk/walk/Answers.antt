@@ -31,33 +31,39 @@ pub returns-in_default-room : goal.returns-in_default-room
 returns-in_default-room c =
     let a = c.args in
     let kept = trace_turn_away a.sheet.now a.faults.now a.tag.now a.trace.now a.source.0 a.destination.0
-    c.check_faults-lists.ensures c.in-Accepted.is c.check_switches-switches.ensures c.in-Passed.is c.check_tag-long.ensures c.in-Passed-long.is c.check_trace-room.ensures
+    c.check_faults-lists.ensures c.in-Accepted.is c.check_switches-switches.ensures c.in-Passed.is c.check_tag-long.ensures
+    c.in-Passed-long.is c.check_trace-room.ensures
     c.refused-in_default-room.result c.in_default-room.is c.number-in_default-room.ensures c.refused-in_default-room.ensures in
     record { walks = kept.0; condition3 = kept.1 }
 
 pub overflow_mul-n : goal.overflow_mul-n
 overflow_mul-n c =
     let a = c.args in
-    let small = few a.sheet.now a.faults.now a.tag.now a.trace.now a.source.0 a.destination.0 c.check_faults-lists.ensures c.in-Accepted.is in
+    let small = few a.sheet.now a.faults.now a.tag.now a.trace.now a.source.0 a.destination.0
+    c.check_faults-lists.ensures c.in-Accepted.is in
     omega arith
 
 pub clear-requires : goal.clear-requires
 clear-requires c =
     let a = c.args in
     let fits = tag_fits a.sheet.now a.faults.now a.tag.now a.trace.now a.source.0 a.destination.0
-    c.check_faults-lists.ensures c.in-Accepted.is c.check_switches-switches.ensures c.in-Passed.is c.check_tag-long.ensures c.in-Passed-long.is in
+    c.check_faults-lists.ensures c.in-Accepted.is c.check_switches-switches.ensures c.in-Passed.is c.check_tag-long.ensures
+    c.in-Passed-long.is in
     omega arith
 
 pub carry-requires : goal.carry-requires
 carry-requires c =
     let a = c.args in
     let ready = ready_to_carry a.sheet.now a.faults.now a.tag.now a.trace.now a.source.0 a.destination.0
-    c.check_faults-lists.ensures c.in-Accepted.is c.check_switches-switches.ensures c.in-Passed.is c.check_tag-long.ensures c.in-Passed-long.is c.check_trace-room.ensures c.in-Passed-room.is c.clear.ensures in
+    c.check_faults-lists.ensures c.in-Accepted.is c.check_switches-switches.ensures c.in-Passed.is c.check_tag-long.ensures
+    c.in-Passed-long.is c.check_trace-room.ensures c.in-Passed-room.is c.clear.ensures in
     record { premises = ready.0; tag_value = ready.1 }
 
 pub returns : goal.returns
 returns c =
     let a = c.args in
     let kept = carried_through a.sheet.now a.faults.now a.tag.now a.trace.now a.source.0 a.destination.0
-    c.check_faults-lists.ensures c.in-Accepted.is c.check_switches-switches.ensures c.in-Passed.is c.check_tag-long.ensures c.in-Passed-long.is c.check_trace-room.ensures c.in-Passed-room.is c.clear.ensures c.carry.result c.carry.ensures in
+    c.check_faults-lists.ensures c.in-Accepted.is c.check_switches-switches.ensures c.in-Passed.is c.check_tag-long.ensures
+    c.in-Passed-long.is c.check_trace-room.ensures c.in-Passed-room.is c.clear.ensures
+    c.carry.result c.carry.ensures in
     record { walks = kept.0; condition3 = kept.1 }
