@@ -1,45 +1,129 @@
--- Laws on the text of hops: one hop more of a trace is its text behind that of the others.
-use Prim.Native.Nat.{ℕ, zero, suc, ◌+◌, ◌*◌}
+-- Laws on the text of hops: a trace's pairs of bytes are its hops, and one pair more is its text behind that of the others. A line with
+-- at most 1,024 hops has at most 8,265 bytes.
+use Prim.Native.Nat.{ℕ, zero, suc, ◌+◌, ◌*◌, ◌/◌, ◌^◌, ◌≤◌, ◌<◌}
 use native.Mathlib.Numerals.{add-one}
 use mathlib.Core.Path.{◌≡◌, refl, sym, ap, ◌∙◌}
 use mathlib.Core.List.{List, [], ◌∷◌, ◌++◌, append_assoc, append-nil}
 use native.Mathlib.Omega.{arith}
-use lib.ListN.{get_or, drop}
-use lib.Seq.{get_or-drop}
+use lib.ListN.{length, get_or, take, drop, length-append, length-take}
+use lib.Seq.{get_or-take, get_or-drop}
+use Rattle.std.specs.Simd.{first_chunks}
 use Rattle.walk.specs.Network.{Dart}
+use Rattle.walk.specs.Walk.{ended, paper_of}
 use Rattle.walk.specs.Condition3.{hops_in}
-use Rattle.lines.specs.Text.{Puts}
-use Rattle.lines.specs.Lines.{hop_text, hops_text}
-use Rattle.lines.proofs.Texts.{puts_then, puts_same}
+use Rattle.sheet.specs.Refusals.{refusal_number}
+use Rattle.sheet.proofs.OneAnswer.{refusal_small}
+use Rattle.walk.specs.declared.walk.End.{End}
+use Rattle.walk.specs.declared.walk.End.TheVariants.{Delivered, None}
+use Rattle.walk.specs.declared.walk.Walked.{Walked}
+use Rattle.lines.specs.declared.text.Line.{Line}
+use Rattle.lines.specs.Text.{decimal, added}
+use Rattle.lines.specs.Lines.{delivered_word, none_word, refused_word, blank, hop_text, hops_text, way_text, refusal_text, end_text, line_of, hops_of, line_after}
+use Rattle.lines.proofs.Texts.{decimal_word, decimal_byte, added_append, Done, line_done}
 
--- the hop at a position of a trace
-abbrev hop_at : List ℕ → ℕ → Dart
-hop_at bytes at = record { switch = get_or bytes at 0; port = get_or bytes (at + 1) 0 }
+-- the first pairs of a trace are its first hops
+pub hops_chunked : (i k : ℕ) (bytes : List ℕ) → i ≤ k → hops_of (take i (first_chunks 2 k bytes)) ≡ hops_in i bytes
+hops_chunked zero k bytes h = refl
+hops_chunked (suc i) zero bytes h = absurd (omega arith)
+hops_chunked (suc i) (suc k) bytes h =
+    rw (get_or-take 2 bytes 0 0 (omega arith), get_or-take 2 bytes 1 0 (omega arith), hops_chunked i k (drop 2 bytes) (omega arith))
 
-hop_later : (bytes : List ℕ) (i : ℕ) → hop_at (drop 2 bytes) (2 * i) ≡ hop_at bytes (2 * suc i)
-hop_later bytes i =
-    let first : 2 + 2 * i ≡ 2 * suc i = omega arith in
-    let second : 2 + (2 * i + 1) ≡ 2 * suc i + 1 = omega arith in
-    rw (get_or-drop 2 bytes (2 * i) 0, get_or-drop 2 bytes (2 * i + 1) 0, first, second)
+pairs_counted : (k : ℕ) (bytes : List ℕ) → length (first_chunks 2 k bytes) ≡ k
+pairs_counted zero bytes = refl
+pairs_counted (suc k) bytes = ap suc (pairs_counted k (drop 2 bytes))
 
-hops_one_more : (i : ℕ) (bytes : List ℕ) → hops_in (suc i) bytes ≡ hops_in i bytes ++ (hop_at bytes (2 * i) ∷ [])
-hops_one_more zero bytes = refl
-hops_one_more (suc i) bytes =
-    ap (λ (hops : List Dart). hop_at bytes 0 ∷ hops)
-    (hops_one_more i (drop 2 bytes) ∙ ap (λ (e : Dart). hops_in i (drop 2 bytes) ++ (e ∷ [])) (hop_later bytes i))
+-- one pair more
+hops_text_more : (i : ℕ) (pairs : List (List ℕ)) → i < length pairs
+    → hops_text (hops_of (take (suc i) pairs))
+    ≡ hops_text (hops_of (take i pairs))
+    ++ hop_text (record { switch = get_or (get_or pairs i []) 0 0; port = get_or (get_or pairs i []) 1 0 })
+hops_text_more i [] h = absurd (omega arith)
+hops_text_more zero (pair ∷ pairs) h = append-nil _
+hops_text_more (suc i) (pair ∷ pairs) h =
+    ap (λ (text : List ℕ). hop_text (record { switch = get_or pair 0 0; port = get_or pair 1 0 }) ++ text)
+    (hops_text_more i pairs (omega arith))
+    ∙ sym (append_assoc (hop_text (record { switch = get_or pair 0 0; port = get_or pair 1 0 })) (hops_text (hops_of (take i pairs))) _)
 
-hops_text_append : (a b : List Dart) → hops_text (a ++ b) ≡ hops_text a ++ hops_text b
-hops_text_append [] b = refl
-hops_text_append (e ∷ a) b =
-    ap (λ (text : List ℕ). hop_text e ++ text) (hops_text_append a b) ∙ sym (append_assoc (hop_text e) (hops_text a) (hops_text b))
+pub added_hop : (line : Line) (i : ℕ) (pairs : List (List ℕ)) → i < length pairs
+    → added line (hops_text (hops_of (take (i + 1) pairs)))
+    ≡ added (added line (hops_text (hops_of (take i pairs))))
+    (hop_text (record { switch = get_or (get_or pairs i []) 0 0; port = get_or (get_or pairs i []) 1 0 }))
+added_hop line i pairs h = rw (add-one i, hops_text_more i pairs h) (added_append line (hops_text (hops_of (take i pairs))) _)
 
-pub puts_hop : {line line' line'' : List ℕ} {at at' at'' : ℕ} (bytes : List ℕ) (i : ℕ)
-    → Puts line at (hops_text (hops_in i bytes)) line' at' → Puts line' at' (hop_text (hop_at bytes (2 * i))) line'' at''
-    → Puts line at (hops_text (hops_in (i + 1) bytes)) line'' at''
-puts_hop bytes i p q = puts_same (sym one_more) (puts_then p q)
-  where
-    one_more : hops_text (hops_in (i + 1) bytes) ≡ hops_text (hops_in i bytes) ++ hop_text (hop_at bytes (2 * i))
-    one_more =
-        ap (λ (k : ℕ). hops_text (hops_in k bytes)) (add-one i) ∙ ap hops_text (hops_one_more i bytes)
-        ∙ hops_text_append (hops_in i bytes) (hop_at bytes (2 * i) ∷ [])
-        ∙ ap (λ (text : List ℕ). hops_text (hops_in i bytes) ++ text) (append-nil (hop_text (hop_at bytes (2 * i))))
+-- ---- how long a line is
+
+hop_length : (switch port : ℕ) → switch < 256 → port < 256 → length (hop_text (record { switch = switch; port = port })) ≤ 8
+hop_length switch port h h' =
+    omega (arith, length-append (decimal switch) (58 ∷ decimal port), decimal_byte switch h, decimal_byte port h')
+
+hops_length : (k : ℕ) (bytes : List ℕ) → ((i : ℕ) → get_or bytes i 0 < 256) → length (hops_text (hops_in k bytes)) ≤ 8 * k
+hops_length zero bytes small = omega arith
+hops_length (suc k) bytes small =
+    let rest : length (hops_text (hops_in k (drop 2 bytes))) ≤ 8 * k =
+    hops_length k (drop 2 bytes) (λ i. rw (get_or-drop 2 bytes i 0) (small (2 + i))) in
+    omega (
+      arith,
+      length-append (hop_text (record { switch = get_or bytes 0 0; port = get_or bytes 1 0 })) (hops_text (hops_in k (drop 2 bytes))),
+      hop_length (get_or bytes 0 0) (get_or bytes 1 0) (small 0) (small 1),
+      rest,
+    )
+
+way_length : (word : List ℕ) (count : ℕ) (hops : List Dart) → length word ≤ 9 → count < 2 ^ 64 → length (hops_text hops) ≤ 8192
+    → length (way_text word count hops) ≤ 8222
+way_length word count hops h counted few =
+    simp length-append (omega (arith, h, few, decimal_word count counted))
+
+refusal_length : (number : ℕ) → number < 2 ^ 64 → length (refusal_text number) ≤ 28
+refusal_length number h = omega (arith, length-append refused_word (blank (decimal number)), decimal_word number h)
+
+end_length : (e : End) (switch count : ℕ) (hops : List Dart) → count < 2 ^ 64 → length (hops_text hops) ≤ 8192 → length (end_text (ended e switch count) hops) ≤ 8222
+end_length Delivered switch count hops counted few = way_length delivered_word count hops (omega arith) counted few
+end_length None switch count hops counted few = way_length none_word count hops (omega arith) counted few
+end_length (End.Refused refusal) switch count hops counted few =
+    omega (arith, refusal_length (refusal_number refusal) (let small = refusal_small refusal in omega arith))
+
+-- a line has at most 8,265 bytes
+line_length : (source destination : ℕ) (walked : Walked) (trace : List ℕ) → source < 2 ^ 64 → destination < 2 ^ 64
+    → walked.hops ≤ 1024 → ((i : ℕ) → get_or trace i 0 < 256)
+    → length (line_after source destination walked trace) ≤ 8265
+unfolding line_of
+line_length source destination walked trace h h' few small =
+    let end : length (end_text (paper_of walked) (hops_in walked.hops trace)) ≤ 8222 =
+    end_length walked.end walked.switch.0 walked.hops (hops_in walked.hops trace) (omega arith)
+    (omega (arith, hops_length walked.hops trace small)) in
+    simp length-append (omega (arith, end, decimal_word source h, decimal_word destination h'))
+
+-- the pairs that the code takes are the line's hops, and as many as it counts
+module _ (source destination : ℕ) (walked : Walked) (trace : List ℕ) (room : 2 * walked.hops ≤ length trace) where
+  abbrev pairs : List (List ℕ)
+  pairs = take walked.hops (first_chunks 2 (length trace / 2) trace)
+
+  counted : length pairs ≡ walked.hops
+  counted = simp (length-take, pairs_counted) (omega arith)
+
+  -- the switch where a walk ended is not told
+  no_switch : (e : End) (hops : List Dart) → end_text (ended e 0 walked.hops) hops ≡ end_text (ended e walked.switch.0 walked.hops) hops
+  no_switch Delivered hops = refl
+  no_switch None hops = refl
+  no_switch (End.Refused refusal) hops = refl
+
+  pub line_pairs : line_of source destination (ended walked.end 0 (length pairs)) (hops_of pairs)
+      ≡ line_after source destination walked trace
+  unfolding line_of
+  line_pairs =
+      rw (counted, hops_chunked walked.hops (length trace / 2) trace (omega arith))
+      (ap (λ (text : List ℕ). decimal source ++ blank (decimal destination) ++ blank text ++ (10 ∷ []))
+      (no_switch walked.end (hops_in walked.hops trace)))
+
+  -- so a line that was begun and given the pairs is the line of the answer and the trace
+  module _ (source_fits : source < 2 ^ 64) (destination_fits : destination < 2 ^ 64) (few : walked.hops ≤ 1024)
+      (small : (i : ℕ) → get_or trace i 0 < 256) where
+    pub line_put : {before after : Line} {given : List (List ℕ)} → before.size ≡ 0 → given ≡ first_chunks 2 (length trace / 2) trace
+        → after ≡ added before (line_of source destination (ended walked.end 0 (length (take walked.hops given))) (hops_of (take walked.hops given)))
+        → Done before after (line_after source destination walked trace) × (after.size ≤ 8265)
+    line_put {before} {after} begun e put =
+        let short : length (line_after source destination walked trace) ≤ 8265 =
+        line_length source destination walked trace source_fits destination_fits few small in
+        let done : Done before after (line_after source destination walked trace) =
+        line_done begun (omega arith) (rw e at put ∙ ap (added before) line_pairs) in
+        (done, omega (arith, done.size_is))

@@ -25,7 +25,7 @@ use Rattle.sheet.proofs.Rows.{row_listing, fault_listing}
 use Rattle.sheet.proofs.Sheet.{sheet_tells}
 use Rattle.sheet.proofs.Accepted.{accepted_of}
 use Rattle.sheet.proofs.Exactly.{either_refused, both_accepted}
-use Rattle.switch.specs.declared.checks.Check.TheVariants.{Refused}
+use Rattle.switch.specs.Checks.{Refused}
 use Rattle.walk.specs.Walk.{Result, Walks, turned_away, walk_checks}
 use Rattle.walk.proofs.Checking.{lists_refuse}
 use Rattle.walk.proofs.OneAnswer.{walks_one}

@@ -1,5 +1,5 @@
--- What a walk's result leaves room for: at most 1,024 hops, two for each of at most 512 cables, and a trace that holds them all. So
--- the line that is put for the walk that was told is the line that was promised.
+-- What a walk's result leaves room for: at most 1,024 hops, two for each of at most 512 cables, a trace that holds them all, and a
+-- refusal number of one digit. So the line that is put for the walk that was told is the line that was promised.
 use Prim.Native.Nat.{ℕ, ◌*◌, ◌≤◌}
 use mathlib.Core.Path.{◌≡◌, refl, sym, ap, ◌∙◌, subst}
 use mathlib.Core.List.{List}
@@ -16,18 +16,18 @@ use Rattle.walk.proofs.Checking.{passed_premises, lists_switches, lists_cables, 
 use Rattle.walk.proofs.Computing.{way_bound, walks_is}
 use Rattle.walk.proofs.OneAnswer.{walks_one, Told}
 use Rattle.walk.proofs.Room.{trace_length}
-use Rattle.lines.specs.Text.{Puts}
+use Rattle.lines.specs.Text.{filled}
 use Rattle.lines.specs.Lines.{line_of, line_after, line_for, Written}
-use Rattle.lines.proofs.Texts.{puts_same, sets_filled}
 
 -- the paper's hop count is the answer's
 hops_are : (a : End) (switch hops : ℕ) → (ended a switch hops).hops ≡ hops
 hops_are Delivered switch hops = refl
 hops_are None switch hops = refl
-hops_are (End.Refused number) switch hops = refl
+hops_are (End.Refused refusal) switch hops = refl
 
 module _ {s faults tag trace : List ℕ} {source destination : ℕ} where
-  fits : {w : Result} → Walks s faults tag trace source destination w → (w.paper.hops ≤ 1024) × (2 * w.paper.hops ≤ length w.trace)
+  fits : {w : Result} → Walks s faults tag trace source destination w
+      → (w.paper.hops ≤ 1024) × (2 * w.paper.hops ≤ length w.trace)
   fits (turned_away e) = (omega arith, omega arith)
   fits (arrives {k} e way end) =
       let p = passed_premises s faults tag trace source destination e in
@@ -49,17 +49,17 @@ module _ {s faults tag trace : List ℕ} {source destination : ℕ} where
     walk_fits = rw same_hops at (fits told)
 
     -- the line of the walk that was told is the line of every walk there is, since there is one
-    pub line_written : {line line' : List ℕ} {size : ℕ}
-        → Puts line 0 (line_after source destination walked trace') line' size
+    pub line_written : {line line' : List ℕ} {size : ℕ} → line' ≡ filled (line_after source destination walked trace') line
+        → size ≡ length (line_after source destination walked trace')
         → (w : Result) → Walks s faults tag trace source destination w → Written source destination w line line' tag' trace' size
-    line_written {line} {line'} {size} put w gives =
+    line_written {line} {line'} {size} put counted w gives =
         let result : Result = record { paper = paper_of walked; tag = tag'; trace = trace' } in
-        let whole : Puts line 0 (line_for source destination result) line' size =
-        puts_same (ap (λ (k : ℕ). line_of source destination (paper_of walked) (hops_in k trace')) (sym same_hops)) put in
+        let same : line_after source destination walked trace' ≡ line_for source destination result =
+        ap (λ (k : ℕ). line_of source destination (paper_of walked) (hops_in k trace')) (sym same_hops) in
         subst (λ (v : Result). Written source destination v line line' tag' trace' size) (walks_one told gives)
         (record {
-          size_is = whole.next_is ∙ omega arith;
-          line_is = whole.after_is ∙ sets_filled line (line_for source destination result);
+          size_is = counted ∙ ap length same;
+          line_is = put ∙ ap (λ (text : List ℕ). filled text line) same;
           tag_is = refl;
           trace_is = refl;
         })

@@ -17,6 +17,13 @@ use Rattle.lines.specs.Asks.{asked, ask_at}
 use Rattle.lines.specs.declared.asks.Ask.{Ask}
 use Rattle.lines.specs.declared.asks.Ask.TheVariants.{Asked, Broken}
 
+-- a whole ask has three bytes
+pub ask_fits : (s : List ℕ) (at next : ℕ) → record_at ask s at ≡ Record next → at + 2 < length s
+unfolding form_of
+ask_fits s at next e =
+    let whole : Whole ask s at next = found_is ask s at e in
+    omega (arith, (whole_form 3 whole).1)
+
 -- an ask that was read from a position on
 abbrev pub later : ℕ → Ask → Ask
 later at (Asked source destination next) = Asked source destination (at + next)

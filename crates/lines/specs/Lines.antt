@@ -1,6 +1,6 @@
 -- The line that the program prints for an ask: source, destination, the end, then the hops and the trace as switch:port, or the refusal
 -- number; blanks between, and a newline after the last.
-use Rattle.std.specs.Prelude.{ℕ, ◌≡◌, List, [], ◌∷◌, ◌++◌, length, eqb}
+use Rattle.std.specs.Prelude.{ℕ, ◌≡◌, List, [], ◌∷◌, ◌++◌, length, get_or, eqb}
 use Rattle.sheet.specs.Lists.{pick}
 use Rattle.walk.specs.Network.{Dart}
 use Rattle.walk.specs.Walk.{Paper, paper_of, Result}
@@ -49,11 +49,13 @@ line_of source destination p hops =
     decimal source ++ blank (decimal destination) ++ blank (end_text p hops) ++ (10 ∷ [])
 
 -- the same of the answer that the code has, and of a trace's bytes
-abbrev pub end_after : Walked → List ℕ → List ℕ
-end_after walked trace = end_text (paper_of walked) (hops_in walked.hops trace)
-
 abbrev pub line_after : ℕ → ℕ → Walked → List ℕ → List ℕ
 line_after source destination walked trace = line_of source destination (paper_of walked) (hops_in walked.hops trace)
+
+-- the hops that pairs of bytes tell
+abbrev pub hops_of : List (List ℕ) → List Dart
+hops_of [] = []
+hops_of (pair ∷ pairs) = record { switch = get_or pair 0 0; port = get_or pair 1 0 } ∷ hops_of pairs
 
 -- the line for a walk's result
 abbrev pub line_for : ℕ → ℕ → Result → List ℕ

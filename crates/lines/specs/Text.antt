@@ -1,7 +1,7 @@
--- Text in ASCII, and a buffer with text laid into it.
-use Rattle.std.specs.Prelude.{ℕ, zero, suc, ◌+◌, ◌/◌, ◌%◌, ◌≡◌, List, [], ◌∷◌, ◌++◌, length, take, drop, leb}
-use Rattle.std.proofs.lemmas.List.Edits.{sets}
+-- Text in ASCII, and a line that text is added to.
+use Rattle.std.specs.Prelude.{ℕ, zero, suc, ◌+◌, ◌-◌, ◌/◌, ◌%◌, ◌^◌, min, List, [], ◌∷◌, ◌++◌, length, take, drop, leb, slice_set}
 use Rattle.sheet.specs.Lists.{pick}
+use Rattle.lines.specs.declared.text.Line.{Line}
 
 -- a number's digits, at most so many, the last one last
 unfoldable pub digits : ℕ → ℕ → List ℕ
@@ -12,10 +12,18 @@ digits (suc most) n = pick (leb 10 n) (digits most (n / 10)) [] ++ ((48 + n % 10
 unfoldable pub decimal : ℕ → List ℕ
 decimal n = digits (suc n) n
 
--- bytes put into a buffer from a position on, each where there is room for it; the position after them counts them all
-pub record Puts (before : List ℕ) (at : ℕ) (bytes : List ℕ) (after : List ℕ) (next : ℕ) : Type 0 where
-  pub next_is : next ≡ at + length bytes
-  pub after_is : after ≡ sets before at bytes
+-- one byte more of a line: set where there is room for it, and counted up to the largest number
+abbrev pub one_more : Line → ℕ → Line
+one_more line byte =
+    record line {
+      buffer = record line.buffer { now = slice_set line.buffer.now line.size byte };
+      size = min (line.size + 1) (2 ^ 64 - 1);
+    }
+
+-- a text more, byte by byte
+abbrev pub added : Line → List ℕ → Line
+added line [] = line
+added line (byte ∷ text) = added (one_more line byte) text
 
 -- a buffer with as much of a text as fits; the bytes beyond are as they came
 abbrev pub filled : List ℕ → List ℕ → List ℕ

@@ -5,8 +5,9 @@ ghost use Rattle.lines.specs.Asks.{ask_at};
 use sheet::numbers::Switch;
 use sheet::records::{ASK, Found, byte_at, record_at};
 
-// What stands at a position of the asks.
-#[derive(Clone, Copy, Drop)]
+// What stands at a position of the asks. It stays an enum: in a Result of an Option the end would be an Ok with nothing in it, which is
+// no plainer.
+#[derive(Clone, Copy, Debug, PartialEq, Eq)]
 pub enum Ask {
     // Source and destination; the next ask begins here.
     Asked(Switch, Switch, usize),
@@ -15,18 +16,17 @@ pub enum Ask {
     Ended,
 }
 
+#[tactic(auto, using(crate::proofs::Window::ask_fits))]
 pub fn next_ask(asks: &[u8], at: usize) -> Ask
     ensures { result ≡ ask_at asks.now at }
 {
-    let found = record_at(asks, at, ASK);
-    match found {
+    match record_at(asks, at, ASK) {
         Found::Record(next) => {
-            let source = Switch(byte_at(asks, at + 1) as u64);
-            let destination = Switch(byte_at(asks, at + 2) as u64);
+            let source = Switch::from(byte_at(asks, at + 1));
+            let destination = Switch::from(byte_at(asks, at + 2));
             Ask::Asked(source, destination, next)
         }
-        Found::WrongKind => Ask::Broken,
-        Found::CutShort => Ask::Broken,
+        Found::WrongKind | Found::CutShort => Ask::Broken,
         Found::Ended => Ask::Ended,
     }
 }

@@ -1,42 +1,42 @@
 // Text put into a buffer. What does not fit is left out and still counted, so that a caller learns the length of the whole.
-// The bounds on positions keep that count from wrapping; no line comes near them.
-ghost use Rattle.std.specs.Prelude.{[], ◌∷◌, ◌+◌, ◌≤◌, ◌^◌, length};
-ghost use Rattle.lines.specs.Text.{Puts, decimal};
+ghost use Rattle.std.specs.Prelude.{◌≡◌, [], ◌∷◌};
+ghost use Rattle.lines.specs.Text.{added, decimal};
 
-pub fn put_byte(line: &mut [u8], at: usize, byte: u8) -> usize
-    requires { at ≤ 2 ^ 62 }
-    ensures { Puts line.old at (byte ∷ []) line.new result }
-{
-    if at < line.len() {
-        line[at] = byte;
-    }
-    at + 1
+use itoa::Buffer;
+
+// A line, and how far it has come in its buffer. The count stays at the largest number, which no line comes near. It is no fmt::Write:
+// what `write!` promises of the bytes holds where it answers Ok, and nothing says that it does.
+#[derive(Drop)]
+pub struct Line<'a> {
+    pub buffer: &'a mut [u8],
+    pub size: usize,
 }
 
-pub fn put_word(line: &mut [u8], at: usize, word: &[u8]) -> usize
-    requires at_bound { at ≤ 2 ^ 61 }
-    requires word_len_bound { length word.now ≤ 2 ^ 61 }
-    ensures { Puts line.old at word.now line.new result }
-{
-    let mut next = at;
-    let mut i = 0;
-    while i < word.len() {
-        next = put_byte(line, next, word[i]);
-        i += 1;
+impl Line<'_> {
+    pub fn put_byte(&mut self, byte: u8)
+        ensures { self.new ≡ added self.old (byte ∷ []) }
+    {
+        if self.size < self.buffer.len() {
+            self.buffer[self.size] = byte;
+        }
+        self.size = self.size.saturating_add(1);
     }
-    next
-}
 
-// In decimal: the digits before the last are those of a tenth of the number.
-pub fn put_number(line: &mut [u8], at: usize, number: u64) -> usize
-    requires { at ≤ 2 ^ 61 }
-    ensures puts { Puts line.old at (decimal number) line.new result }
-    ensures upper_bound { result ≤ at + 20 }
-{
-    let is_digit = number < 10;
-    if is_digit {
-        return put_byte(line, at, 48 + number as u8);
+    #[tactic(auto, using(crate::proofs::Texts::added_next))]
+    pub fn put_text(&mut self, text: &str)
+        ensures { self.new ≡ added self.old text.now }
+    {
+        for byte in text.as_bytes() {
+            self.put_byte(*byte);
+        }
     }
-    let last = put_number(line, at, number / 10);
-    put_byte(line, last, 48 + (number % 10) as u8)
+
+    // In decimal.
+    #[tactic(auto, using(crate::proofs::Texts::decimal_printed))]
+    pub fn put_number(&mut self, number: u64)
+        ensures { self.new ≡ added self.old (decimal number) }
+    {
+        let mut digits = Buffer::new();
+        self.put_text(digits.format(number));
+    }
 }

@@ -1,10 +1,9 @@
 -- The walk over a fault list for one cable: a fault that names neither end leaves the question to the faults after it.
-use Prim.Native.Nat.{ℕ, zero, suc, ◌-◌, ◌≤◌, ◌<◌}
+use Prim.Native.Nat.{ℕ, zero, suc, ◌≤◌}
 use mathlib.Core.Path.{◌≡◌, refl, ap, sym, ◌∙◌}
 use mathlib.Core.List.{List, []}
 use mathlib.Core.Bool.{Bool, true, false}
 use native.Mathlib.Omega.{arith}
-use native.Mathlib.Numerals.{sub-one}
 use Rattle.sheet.specs.Records.{record_at, wholes, fault}
 use Rattle.sheet.specs.Cables.{carries}
 use Rattle.sheet.specs.Faults.{fault_at, faults_of, live}
@@ -38,18 +37,18 @@ module _ {s : List ℕ} {c : Cable} where
   live_full {room = zero} {at} asks none = none_left asks (wholes_none fault fault_at s at)
   live_full {room = suc room} asks none = absurd (omega arith)
 
-  pub live_named : {room at next : ℕ} → Asks s c room at → 0 < room → record_at fault s at ≡ Record next → names s at c ≡ true
-      → false ≡ live (faults_of s) c
+  pub live_named : (room : ℕ) {rooms at next : ℕ} → rooms ≡ suc room → Asks s c rooms at → record_at fault s at ≡ Record next
+      → names s at c ≡ true → false ≡ live (faults_of s) c
   unfolding live
-  live_named {room = zero} asks some e named = absurd (omega arith)
-  live_named {room = suc room} {at} {next} asks some e named =
-      sym (asks.same ∙ ap (λ faults. live faults c) (wholes_next fault fault_at s room at next e) ∙ rw named)
+  live_named room {at = at} {next = next} one asks e named =
+      sym (asks.same ∙ ap (λ k. live (wholes fault fault_at k s at) c) one
+      ∙ ap (λ faults. live faults c) (wholes_next fault fault_at s room at next e) ∙ rw named)
 
-  pub asks_next : {room at next : ℕ} → Asks s c room at → 0 < room → record_at fault s at ≡ Record next → names s at c ≡ false
-      → Asks s c (room - 1) next
+  pub asks_next : (room : ℕ) {rooms at next : ℕ} → rooms ≡ suc room → Asks s c rooms at → record_at fault s at ≡ Record next
+      → names s at c ≡ false → Asks s c room next
   unfolding live
-  asks_next {room = zero} asks some e named = absurd (omega arith)
-  asks_next {room = suc room} {at} {next} asks some e named = record {
-    same = rw (sub-one (suc room))
-        (asks.same ∙ ap (λ faults. live faults c) (wholes_next fault fault_at s room at next e) ∙ rw named);
+  asks_next room {at = at} {next = next} one asks e named = record {
+    same =
+        asks.same ∙ ap (λ k. live (wholes fault fault_at k s at) c) one
+        ∙ ap (λ faults. live faults c) (wholes_next fault fault_at s room at next e) ∙ rw named;
   }

@@ -12,6 +12,7 @@ pub mod FaultList
 pub mod Accepted
 pub mod Exactly
 pub mod Through
+pub mod Listed
 pub mod Telling
 pub mod Parts
 pub mod Marking

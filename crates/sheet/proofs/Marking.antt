@@ -101,6 +101,16 @@ module _ (table : List ℕ) (v p : ℕ) (size : length table ≡ 64) (switch : W
       by_range true e false f = rw (elsewhere (λ s t. true≢false ((decides_within 48 q).1 (subst (Within 48) t port)) f))
       by_range false e b f = rw (elsewhere (λ s t. true≢false ((decides_within 64 w).1 (subst (Within 64) s switch)) e))
 
+-- a port is cabled, where the table is told of by its bits
+module _ {table : List ℕ} {rows : List Cable} (marks : Marks table rows) (v p : ℕ) where
+  pub marked_inside : within 64 v ≡ true → within 48 p ≡ true → bit p (get_or table (v - 1) 0) ≡ cabled rows v p
+  unfolding marked
+  marked_inside switch port = rw (switch, port) at (marks.ports v p)
+
+  pub marked_outside : both (within 64 v) (within 48 p) ≡ false → false ≡ cabled rows v p
+  unfolding marked
+  marked_outside out = rw out at (marks.ports v p)
+
 past : (a b d : Bool) → either a (either b d) ≡ either b (either a d)
 past a b d = sym (either_assoc a b d) ∙ ap (λ e. either e d) (either_swap a b) ∙ either_assoc b a d
 

@@ -13,9 +13,9 @@ use Rattle.sheet.specs.Accepted.{AcceptedSheet}
 use Rattle.sheet.specs.Rebuilt.{Rebuilt, sheet_bytes}
 use Rattle.sheet.specs.Cabling.{SameCabling}
 use Rattle.sheet.specs.declared.cables.Cable.{Cable}
+use Rattle.sheet.specs.declared.rules.Rule.{Rule}
 use Rattle.sheet.specs.declared.rules.Rule.TheVariants.{FaultForm, FaultUncabled}
-use Rattle.sheet.specs.declared.rules.Verdict.{Verdict}
-use Rattle.sheet.specs.declared.rules.Verdict.TheVariants.{Fine, Breaks}
+use Rattle.std.specs.Prelude.{Result, Ok, Err}
 use Rattle.sheet.proofs.Accepted.{accepted_of}
 use Rattle.sheet.proofs.Sheet.{rows_of_lem}
 use Rattle.sheet.proofs.Rebuilding.{rebuilt_length, rebuilt_sound, rebuilt_order, rebuilt_cabled}
@@ -43,8 +43,8 @@ module _ {s : List ℕ} {rows rows' : List Cable} (sheet : AcceptedSheet s rows)
   same_list : (f : List ℕ) → fault_reading rows f ≡ fault_reading rows' f
   unfolding fault_reading fault_rule
   same_list f =
-      ap (λ (rule : List Socket → Socket → Verdict). scan fault FaultForm fault_at rule 512 f 0 [])
-      (λ i before x. pick (rebuilt_cabled rebuilt x.switch x.port i) Fine (Breaks FaultUncabled))
+      ap (λ (rule : List Socket → Socket → Result (Unit {0}) Rule). scan fault FaultForm fault_at rule 512 f 0 [])
+      (λ i before x. pick (rebuilt_cabled rebuilt x.switch x.port i) (Ok tt) (Err FaultUncabled))
 
   same_order : (v : ℕ) → port_order (rows_of s) v ≡ port_order (rows_of again) v
   same_order v = rw (rows_of_lem s read, rows_of_lem again read_again) (rebuilt_order sheet.sound rebuilt v)

@@ -11,8 +11,7 @@ use Rattle.sheet.specs.Refusals.{number_of}
 use Rattle.sheet.specs.Exactly.{Right, none, more, AllRight, FormWrong, other_kind, cut_short, one_too_many, RuleBroken, broken}
 use Rattle.sheet.specs.declared.records.Place.{Place}
 use Rattle.sheet.specs.declared.rules.Rule.{Rule}
-use Rattle.sheet.specs.declared.rules.Verdict.{Verdict}
-use Rattle.sheet.specs.declared.rules.Verdict.TheVariants.{Fine, Breaks}
+use Rattle.std.specs.Prelude.{Result, Ok, Err}
 use Rattle.sheet.proofs.Tests.{Judges, when_fine, when_breaks, fine_when}
 use Rattle.sheet.proofs.Scan.{record_ended, record_kind, record_cut, record_whole, found_is, Scanned, ended, kind, cut, full}
 use Rattle.sheet.proofs.Scan.{breaks, fine, scan_is, is_scan}
@@ -30,7 +29,7 @@ pub record Listing (A : Type 0) : Type 1 where
   pub place : Place
   pub form : Rule
   pub read : List ℕ → ℕ → A
-  pub check : List A → A → Verdict
+  pub check : List A → A → Result (Unit {0}) Rule
   pub Obeys : List A → A → Type 0
   pub number : ℕ
   pub judges : (before : List A) (x : A) → Judges number (Obeys before x) (check before x)
@@ -44,7 +43,7 @@ module _ {A : Type 0} (listing : Listing A) (s : List ℕ) (start : ℕ) where
   abbrev Scans : ℕ → ℕ → List A → Reading A → Type 0
   Scans = Scanned place form read check s
 
-  verdict_judges : {verdict : Verdict} (before : List A) (x : A) → check before x ≡ verdict → Judges number (Obeys before x) verdict
+  verdict_judges : {verdict : Result (Unit {0}) Rule} (before : List A) (x : A) → check before x ≡ verdict → Judges number (Obeys before x) verdict
   verdict_judges before x c = subst (Judges number (Obeys before x)) c (judges before x)
 
   abbrev answered : Reading A
@@ -119,9 +118,9 @@ module _ {A : Type 0} (listing : Listing A) (s : List ℕ) (start : ℕ) where
   pub scan_broken : RuleBroken place read Obeys s start → WrongWith number answered
   scan_broken (broken {at = at} {next = next} {before = before} chain few whole disobeys) = by_check (check before (read s at)) refl
     where
-      by_check : (verdict : Verdict) → check before (read s at) ≡ verdict → WrongWith number answered
-      by_check Fine c = absurd (disobeys (when_fine (verdict_judges before (read s at) c)))
-      by_check (Breaks rule) c = rw (when_breaks (verdict_judges before (read s at) c)).0 at (refuses chain some_room)
+      by_check : (verdict : Result (Unit {0}) Rule) → check before (read s at) ≡ verdict → WrongWith number answered
+      by_check (Ok tt) c = absurd (disobeys (when_fine (verdict_judges before (read s at) c)))
+      by_check (Err rule) c = rw (when_breaks (verdict_judges before (read s at) c)).0 at (refuses chain some_room)
         where
           some_room : Scans (512 - length before) at before (wrong rule at (next - at))
           some_room =

@@ -19,7 +19,7 @@ use Rattle.sheet.specs.declared.cables.Cable.{Cable}
 use Rattle.sheet.specs.declared.rules.Rule.{Rule}
 use Rattle.sheet.specs.declared.rules.Rule.TheVariants.{SheetForm, SwitchRange, PortRange, SameSwitch, PortUsed, FaultForm}
 use Rattle.sheet.specs.declared.rules.Rule.TheVariants.{FaultUncabled}
-use Rattle.sheet.specs.declared.rules.Verdict.TheVariants.{Fine, Breaks}
+use Rattle.std.specs.Prelude.{Ok, Err}
 use Rattle.sheet.proofs.Tests.{Decides, true≢false, decides-≤, decides-≡, decides-×, decides-⊎, Judges, obeyed, when_fine}
 use Rattle.sheet.proofs.Tests.{when_breaks, fine_when, judges_pass, judges_fail}
 use Rattle.sheet.proofs.Right.{Listing}
@@ -84,18 +84,18 @@ module _ (n : ℕ) (before : List Cable) (c : Cable) where
         far_free = λ h. free (inr h);
       })))))
 
-  pub row_fine : (row_rule n before c ≡ Fine) ↔ RowObeys n before c
+  pub row_fine : (row_rule n before c ≡ Ok tt) ↔ RowObeys n before c
   row_fine = (λ e. when_fine (subst (Judges 3 (RowObeys n before c)) e row_judged), fine_when row_judged)
 
   -- a row that is refused breaks the rules on switches and ports, and no other
-  pub row_breaks : {rule : Rule} → row_rule n before c ≡ Breaks rule → (number_of rule ≡ 3) × (RowObeys n before c → ⊥)
+  pub row_breaks : {rule : Rule} → row_rule n before c ≡ Err rule → (number_of rule ≡ 3) × (RowObeys n before c → ⊥)
   row_breaks e = when_breaks (subst (Judges 3 (RowObeys n before c)) e row_judged)
 
 -- a fault is right exactly if it names a cabled port
 pub fault_judged : (rows : List Cable) (before : List Socket) (f : Socket) → Judges 5 (Names rows before f) (fault_rule rows before f)
 unfolding fault_rule
 fault_judged rows before f =
-    judges_pass (cabled rows f.switch f.port) Fine FaultUncabled refl (cabled_socket rows f.switch f.port) (λ h. h) obeyed
+    judges_pass (cabled rows f.switch f.port) (Ok tt) FaultUncabled refl (cabled_socket rows f.switch f.port) (λ h. h) obeyed
 
 -- the two lists that are scanned
 abbrev pub row_listing : ℕ → Listing Cable

@@ -14,8 +14,7 @@ use Rattle.sheet.specs.declared.records.Place.{Place}
 use Rattle.sheet.specs.declared.records.Found.{Found}
 use Rattle.sheet.specs.declared.records.Found.TheVariants.{Record, WrongKind, CutShort, Ended}
 use Rattle.sheet.specs.declared.rules.Rule.{Rule}
-use Rattle.sheet.specs.declared.rules.Verdict.{Verdict}
-use Rattle.sheet.specs.declared.rules.Verdict.TheVariants.{Fine, Breaks}
+use Rattle.std.specs.Prelude.{Result, Ok, Err}
 
 -- what each answer of the walker says
 abbrev pub Standing : Place → List ℕ → ℕ → Found → Type 0
@@ -84,7 +83,7 @@ module _ (place : Place) (s : List ℕ) (at : ℕ) where
   pub found_is : {found : Found} → record_at place s at ≡ found → Standing place s at found
   found_is e = subst (Standing place s at) e found_so
 
-module _ {A : Type 0} (place : Place) (broken : Rule) (read : List ℕ → ℕ → A) (check : List A → A → Verdict) (s : List ℕ) where
+module _ {A : Type 0} (place : Place) (broken : Rule) (read : List ℕ → ℕ → A) (check : List A → A → Result (Unit {0}) Rule) (s : List ℕ) where
   abbrev from : ℕ → ℕ → List A → Reading A
   from room at before = scan place broken read check room s at before
 
@@ -109,11 +108,11 @@ module _ {A : Type 0} (place : Place) (broken : Rule) (read : List ℕ → ℕ �
   scan_full at next before e = rw e
 
   pub scan_breaks : (room at next : ℕ) (before : List A) (rule : Rule) → record_at place s at ≡ Record next
-      → check before (read s at) ≡ Breaks rule → from (suc room) at before ≡ wrong rule at (next - at)
+      → check before (read s at) ≡ Err rule → from (suc room) at before ≡ wrong rule at (next - at)
   unfolding scan
   scan_breaks room at next before rule e c = rw (e, c)
 
-  pub scan_fine : (room at next : ℕ) (before : List A) → record_at place s at ≡ Record next → check before (read s at) ≡ Fine
+  pub scan_fine : (room at next : ℕ) (before : List A) → record_at place s at ≡ Record next → check before (read s at) ≡ Ok tt
       → from (suc room) at before ≡ from room next (before ++ (read s at ∷ []))
   unfolding scan
   scan_fine room at next before e c = rw (e, c)
@@ -124,9 +123,9 @@ module _ {A : Type 0} (place : Place) (broken : Rule) (read : List ℕ → ℕ �
     kind : {room at : ℕ} {before : List A} → record_at place s at ≡ WrongKind → Scanned room at before (wrong broken at 1)
     cut : {room at : ℕ} {before : List A} → record_at place s at ≡ CutShort → Scanned room at before (wrong broken at (length s - at))
     full : {at next : ℕ} {before : List A} → record_at place s at ≡ Record next → Scanned zero at before (wrong broken at (next - at))
-    breaks : {room at next : ℕ} {before : List A} {rule : Rule} → record_at place s at ≡ Record next → check before (read s at) ≡ Breaks rule
+    breaks : {room at next : ℕ} {before : List A} {rule : Rule} → record_at place s at ≡ Record next → check before (read s at) ≡ Err rule
         → Scanned (suc room) at before (wrong rule at (next - at))
-    fine : {room at next : ℕ} {before : List A} {reading : Reading A} → record_at place s at ≡ Record next → check before (read s at) ≡ Fine
+    fine : {room at next : ℕ} {before : List A} {reading : Reading A} → record_at place s at ≡ Record next → check before (read s at) ≡ Ok tt
         → Scanned room next (before ++ (read s at ∷ [])) reading → Scanned (suc room) at before reading
 
   scanned : (room at : ℕ) (before : List A) → Scanned room at before (from room at before)
@@ -141,10 +140,10 @@ module _ {A : Type 0} (place : Place) (broken : Rule) (read : List ℕ → ℕ �
     where
       by_check : (next : ℕ) → record_at place s at ≡ Record next
           → Scanned room next (before ++ (read s at ∷ [])) (from room next (before ++ (read s at ∷ [])))
-          → (verdict : Verdict) → check before (read s at) ≡ verdict
+          → (verdict : Result (Unit {0}) Rule) → check before (read s at) ≡ verdict
           → Scanned (suc room) at before (from (suc room) at before)
-      by_check next e rest Fine c = rw (scan_fine room at next before e c) (fine e c rest)
-      by_check next e rest (Breaks rule) c = rw (scan_breaks room at next before rule e c) (breaks e c)
+      by_check next e rest (Ok tt) c = rw (scan_fine room at next before e c) (fine e c rest)
+      by_check next e rest (Err rule) c = rw (scan_breaks room at next before rule e c) (breaks e c)
 
       by_found : ((next : ℕ) → Scanned room next (before ++ (read s at ∷ [])) (from room next (before ++ (read s at ∷ []))))
           → (found : Found) → record_at place s at ≡ found → Scanned (suc room) at before (from (suc room) at before)
@@ -205,7 +204,7 @@ module _ {A : Type 0} (place : Place) (read : List ℕ → ℕ → A) (s : List 
       go CutShort rest = refl
       go Ended rest = refl
 
-module _ {A : Type 0} (place : Place) (broken : Rule) (read : List ℕ → ℕ → A) (check : List A → A → Verdict) (s : List ℕ) where
+module _ {A : Type 0} (place : Place) (broken : Rule) (read : List ℕ → ℕ → A) (check : List A → A → Result (Unit {0}) Rule) (s : List ℕ) where
   -- a scan that finds nothing wrong has read every whole record
   scanned_wholes : {room at : ℕ} {before rows : List A} → Scanned place broken read check s room at before (right rows)
       → rows ≡ before ++ wholes place read room s at

@@ -5,11 +5,9 @@ use mathlib.Core.List.{List}
 use native.Mathlib.Omega.{arith}
 use lib.ListN.{length}
 use Rattle.sheet.specs.Records.{Reading, right, wrong}
-use Rattle.sheet.specs.Told.{told_of, checked_of}
-use Rattle.sheet.specs.Refusals.{answer_of, sheet_answer_of}
-use Rattle.sheet.specs.declared.cables.Cable.{Cable}
-use Rattle.sheet.specs.declared.reading.Told.TheVariants.{Right, Wrong}
-use Rattle.sheet.specs.declared.rules.Rule.{Rule}
+use Rattle.sheet.specs.Told.{told_of}
+use Rattle.std.specs.Prelude.{Ok, Err}
+use Rattle.sheet.specs.declared.listing.Wrong.{Wrong}
 
 -- right records, as many as told
 pub record RightTold {A : Type 0} (reading : Reading A) (count : ℕ) : Type 0 where
@@ -18,15 +16,11 @@ pub record RightTold {A : Type 0} (reading : Reading A) (count : ℕ) : Type 0 w
   pub counted : count ≡ length records
 
 module _ {A : Type 0} where
-  pub told_right : (reading : Reading A) {count : ℕ} → told_of reading ≡ Right count → RightTold reading count
+  pub told_right : (reading : Reading A) {count : ℕ} → told_of reading ≡ Ok count → RightTold reading count
   told_right (right records) e = record { records = records; read = refl; counted = cc }
   told_right (wrong rule start size) e = let z : ◌≡◌ {A = ℕ} 0 1 = cc in absurd (omega arith)
 
-  pub told_wrong : (reading : Reading A) {rule : Rule} {start size : ℕ} → told_of reading ≡ Wrong rule start size
-      → reading ≡ wrong rule start size
+  pub told_wrong : (reading : Reading A) {first : Wrong} → told_of reading ≡ Err first
+      → reading ≡ wrong first.rule first.start first.size
   told_wrong (right records) e = let z : ◌≡◌ {A = ℕ} 0 1 = cc in absurd (omega arith)
   told_wrong (wrong rule start size) e = cc
-
-pub sheet_checked : (n : ℕ) (reading : Reading Cable) → answer_of (checked_of n (told_of reading)) ≡ sheet_answer_of n reading
-sheet_checked n (right rows) = refl
-sheet_checked n (wrong rule start size) = refl

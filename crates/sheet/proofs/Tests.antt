@@ -10,8 +10,7 @@ use borrow.Author.Tests.{leb-true, le-leb, eqb-true, eq-eqb}
 use Rattle.sheet.specs.Lists.{pick, both, either}
 use Rattle.sheet.specs.Refusals.{number_of}
 use Rattle.sheet.specs.declared.rules.Rule.{Rule}
-use Rattle.sheet.specs.declared.rules.Verdict.{Verdict}
-use Rattle.sheet.specs.declared.rules.Verdict.TheVariants.{Fine, Breaks}
+use Rattle.std.specs.Prelude.{Result, Ok, Err}
 
 -- the test passes exactly if P holds
 abbrev pub Decides : Bool → Type 0 → Type 0
@@ -39,34 +38,34 @@ decides-⊎ true b d e = (λ t. inl (d.0 refl), λ h. refl)
 decides-⊎ false b d e = (λ t. inr (e.0 t), λ h. elim h [ inl p ↦ absurd (true≢false (d.1 p) refl) | inr q ↦ e.1 q ])
 
 -- a verdict on whether P holds; its rule breaks have one refusal number
-pub data Judges (number : ℕ) (P : Type 0) : Verdict → Type 0 where
-  obeyed : P → Judges number P Fine
-  disobeyed : {rule : Rule} → number_of rule ≡ number → (P → ⊥) → Judges number P (Breaks rule)
+pub data Judges (number : ℕ) (P : Type 0) : Result (Unit {0}) Rule → Type 0 where
+  obeyed : P → Judges number P (Ok tt)
+  disobeyed : {rule : Rule} → number_of rule ≡ number → (P → ⊥) → Judges number P (Err rule)
 
-pub when_fine : {number : ℕ} {P : Type 0} → Judges number P Fine → P
+pub when_fine : {number : ℕ} {P : Type 0} → Judges number P (Ok tt) → P
 when_fine (obeyed p) = p
 
-pub when_breaks : {number : ℕ} {P : Type 0} {rule : Rule} → Judges number P (Breaks rule) → (number_of rule ≡ number) × (P → ⊥)
+pub when_breaks : {number : ℕ} {P : Type 0} {rule : Rule} → Judges number P (Err rule) → (number_of rule ≡ number) × (P → ⊥)
 when_breaks (disobeyed n never) = (n, never)
 
-pub fine_when : {number : ℕ} {P : Type 0} {v : Verdict} → Judges number P v → P → v ≡ Fine
+pub fine_when : {number : ℕ} {P : Type 0} {v : Result (Unit {0}) Rule} → Judges number P v → P → v ≡ Ok tt
 fine_when (obeyed p) q = refl
 fine_when (disobeyed n never) q = absurd (never q)
 
-module _ {number : ℕ} {P T : Type 0} (test : Bool) (rest : Verdict) (rule : Rule) (numbered : number_of rule ≡ number)
+module _ {number : ℕ} {P T : Type 0} (test : Bool) (rest : Result (Unit {0}) Rule) (rule : Rule) (numbered : number_of rule ≡ number)
     (decides : Decides test T) where
   -- a test that a right record passes
-  pub judges_pass : (P → T) → (T → Judges number P rest) → Judges number P (pick test rest (Breaks rule))
+  pub judges_pass : (P → T) → (T → Judges number P rest) → Judges number P (pick test rest (Err rule))
   judges_pass needs then = go test refl
     where
-      go : (b : Bool) → test ≡ b → Judges number P (pick b rest (Breaks rule))
+      go : (b : Bool) → test ≡ b → Judges number P (pick b rest (Err rule))
       go true e = then (decides.0 e)
       go false e = disobeyed numbered (λ p. true≢false (decides.1 (needs p)) e)
 
   -- a test that a right record fails
-  pub judges_fail : (P → T → ⊥) → ((T → ⊥) → Judges number P rest) → Judges number P (pick test (Breaks rule) rest)
+  pub judges_fail : (P → T → ⊥) → ((T → ⊥) → Judges number P rest) → Judges number P (pick test (Err rule) rest)
   judges_fail shuns then = go test refl
     where
-      go : (b : Bool) → test ≡ b → Judges number P (pick b (Breaks rule) rest)
+      go : (b : Bool) → test ≡ b → Judges number P (pick b (Err rule) rest)
       go true e = disobeyed numbered (λ p. shuns p (decides.0 e))
       go false e = then (λ t. true≢false (decides.1 t) e)

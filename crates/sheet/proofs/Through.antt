@@ -1,5 +1,5 @@
--- A loop that reads a list of records: so far `count` records were right, and what is left to read comes to what the whole list comes to.
--- One law for each way that a turn can go.
+-- A list of records, read one by one with the records kept: so far `count` records were right, and what is left to read comes to what the
+-- whole list comes to. One law for each way that a record can turn out. (The loop of the code keeps no records: proofs/Listed.)
 use Prim.Native.Nat.{ℕ, suc, ◌+◌, ◌-◌, ◌≤◌, ◌<◌}
 use mathlib.Core.Path.{◌≡◌, refl, ap, ◌∙◌}
 use mathlib.Core.List.{List, [], ◌∷◌, ◌++◌}
@@ -9,13 +9,11 @@ use Rattle.sheet.specs.Records.{record_at, Reading, right, wrong, scan}
 use Rattle.sheet.specs.Told.{told_of}
 use Rattle.sheet.specs.declared.records.Place.{Place}
 use Rattle.sheet.specs.declared.records.Found.TheVariants.{Record, WrongKind, CutShort, Ended}
-use Rattle.sheet.specs.declared.reading.Told.TheVariants.{Right}
 use Rattle.sheet.specs.declared.rules.Rule.{Rule}
-use Rattle.sheet.specs.declared.rules.Verdict.{Verdict}
-use Rattle.sheet.specs.declared.rules.Verdict.TheVariants.{Fine, Breaks}
+use Rattle.std.specs.Prelude.{Result, Ok, Err}
 use Rattle.sheet.proofs.Scan.{scan_ended, scan_kind, scan_cut, scan_full, scan_breaks, scan_fine}
 
-module _ {A : Type 0} (place : Place) (broken : Rule) (read : List ℕ → ℕ → A) (check : List A → A → Verdict) (s : List ℕ) (from : ℕ) where
+module _ {A : Type 0} (place : Place) (broken : Rule) (read : List ℕ → ℕ → A) (check : List A → A → Result (Unit {0}) Rule) (s : List ℕ) (from : ℕ) where
   abbrev pub scan_from : ℕ → ℕ → List A → Reading A
   scan_from room at before = scan place broken read check room s at before
 
@@ -34,7 +32,7 @@ module _ {A : Type 0} (place : Place) (broken : Rule) (read : List ℕ → ℕ �
     pub through_right : record_at place s at ≡ Ended → whole ≡ right before
     through_right e = so_far.same ∙ scan_ended place broken read check s (512 - count) at before e
 
-    pub through_ended : record_at place s at ≡ Ended → Right count ≡ told_of whole
+    pub through_ended : record_at place s at ≡ Ended → Ok count ≡ told_of whole
     through_ended e = rw (through_right e, so_far.size)
 
     pub through_kind : record_at place s at ≡ WrongKind → whole ≡ wrong broken at 1
@@ -52,11 +50,11 @@ module _ {A : Type 0} (place : Place) (broken : Rule) (read : List ℕ → ℕ �
       one_more : 512 - count ≡ suc (511 - count)
       one_more = omega arith
 
-      pub through_breaks : {rule : Rule} → check before (read s at) ≡ Breaks rule → whole ≡ wrong rule at (next - at)
+      pub through_breaks : {rule : Rule} → check before (read s at) ≡ Err rule → whole ≡ wrong rule at (next - at)
       through_breaks {rule} b =
           so_far.same ∙ rw one_more (scan_breaks place broken read check s (511 - count) at next before rule e b)
 
-      pub through_fine : check before (read s at) ≡ Fine → Through next (count + 1) (before ++ (read s at ∷ []))
+      pub through_fine : check before (read s at) ≡ Ok tt → Through next (count + 1) (before ++ (read s at ∷ []))
       through_fine f =
           let left : 511 - count ≡ 512 - (count + 1) = omega arith in
           record {
@@ -64,11 +62,3 @@ module _ {A : Type 0} (place : Place) (broken : Rule) (read : List ℕ → ℕ �
             room = omega arith;
             same = so_far.same ∙ rw (one_more, ← left) (scan_fine place broken read check s (511 - count) at next before e f);
           }
-
-module _ {A : Type 0} {reading : Reading A} where
-  -- a reading has one list of records
-  pub right_one : {xs ys : List A} → reading ≡ right xs → reading ≡ right ys → xs ≡ ys
-  right_one p q = cc
-
-  pub never_right : {P : Type 0} {rule : Rule} {start size : ℕ} {ys : List A} → reading ≡ wrong rule start size → reading ≡ right ys → P
-  never_right p q = let z : ◌≡◌ {A = ℕ} 0 1 = cc in absurd (omega arith)

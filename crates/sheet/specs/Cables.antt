@@ -1,12 +1,11 @@
 -- Cable rows, the rules on them, and the sheet: one record of kind 1, then 0 to 512 of kind 2.
-use Rattle.std.specs.Prelude.{ℕ, ◌+◌, List, [], Bool, get_or, leb, eqb}
+use Rattle.std.specs.Prelude.{ℕ, ◌+◌, List, [], Bool, get_or, leb, eqb, Result, Ok, Err}
 use Rattle.sheet.specs.Lists.{pick, both, either, any}
 use Rattle.sheet.specs.Records.{Reading, wrong, formed, scan, wholes, go_on, record_at, front, row}
 use Rattle.sheet.specs.declared.cables.End.{End}
 use Rattle.sheet.specs.declared.cables.Cable.{Cable}
 use Rattle.sheet.specs.declared.rules.Rule.TheVariants.{SheetForm, SwitchCount, SwitchRange, PortRange, SameSwitch, PortUsed}
-use Rattle.sheet.specs.declared.rules.Verdict.{Verdict}
-use Rattle.sheet.specs.declared.rules.Verdict.TheVariants.{Fine, Breaks}
+use Rattle.sheet.specs.declared.rules.Rule.{Rule}
 
 -- switch, port, preference of one end, then of the other
 abbrev pub end_at : List ℕ → ℕ → End
@@ -42,15 +41,15 @@ abbrev pub within : ℕ → ℕ → Bool
 within most k = both (leb 1 k) (leb k most)
 
 -- a row held to the rules and to the rows before it
-unfoldable pub row_rule : ℕ → List Cable → Cable → Verdict
+unfoldable pub row_rule : ℕ → List Cable → Cable → Result (Unit {0}) Rule
 row_rule n before c =
     pick (both (within n c.near.switch) (within n c.far.switch))
     (pick (both (within 48 c.near.port) (within 48 c.far.port))
-    (pick (eqb c.near.switch c.far.switch) (Breaks SameSwitch)
-    (pick (either (cabled before c.near.switch c.near.port) (cabled before c.far.switch c.far.port)) (Breaks PortUsed)
-    Fine))
-    (Breaks PortRange))
-    (Breaks SwitchRange)
+    (pick (eqb c.near.switch c.far.switch) (Err SameSwitch)
+    (pick (either (cabled before c.near.switch c.near.port) (cabled before c.far.switch c.far.port)) (Err PortUsed)
+    (Ok tt)))
+    (Err PortRange))
+    (Err SwitchRange)
 
 -- n, where the first record is whole
 abbrev pub switches_of : List ℕ → ℕ

@@ -1,14 +1,12 @@
 -- Bytes on the bench: one byte of kind, then a body whose length the kind fixes. Lists of such records are read from the front, record by
 -- record, at each record form before content; the first wrong record decides.
-use Rattle.std.specs.Prelude.{ℕ, zero, suc, ◌+◌, ◌-◌, List, [], ◌∷◌, ◌++◌, length, get_or, leb, eqb}
+use Rattle.std.specs.Prelude.{ℕ, zero, suc, ◌+◌, ◌-◌, List, [], ◌∷◌, ◌++◌, length, get_or, leb, eqb, Result, Ok, Err}
 use Rattle.sheet.specs.Lists.{pick}
 use Rattle.sheet.specs.declared.records.Place.{Place}
 use Rattle.sheet.specs.declared.records.Form.{Form}
 use Rattle.sheet.specs.declared.records.Found.{Found}
 use Rattle.sheet.specs.declared.records.Found.TheVariants.{Record, WrongKind, CutShort, Ended}
 use Rattle.sheet.specs.declared.rules.Rule.{Rule}
-use Rattle.sheet.specs.declared.rules.Verdict.{Verdict}
-use Rattle.sheet.specs.declared.rules.Verdict.TheVariants.{Fine, Breaks}
 
 abbrev pub form : ℕ → ℕ → Form
 form body place = record { body = body; place = record { 0 = place } }
@@ -54,12 +52,12 @@ formed broken s at WrongKind whole done = wrong broken at 1
 formed broken s at CutShort whole done = wrong broken at (length s - at)
 formed broken s at Ended whole done = done
 
-abbrev pub judged : {A : Type 0} → Verdict → ℕ → ℕ → Reading A → Reading A
-judged Fine at size rest = rest
-judged (Breaks rule) at size rest = wrong rule at size
+abbrev pub judged : {A : Type 0} → Result (Unit {0}) Rule → ℕ → ℕ → Reading A → Reading A
+judged (Ok tt) at size rest = rest
+judged (Err rule) at size rest = wrong rule at size
 
 -- at most `room` records of one place from a position on; `read` says what a record holds, and `check` holds it to those before
-module _ {A : Type 0} (place : Place) (broken : Rule) (read : List ℕ → ℕ → A) (check : List A → A → Verdict) where
+module _ {A : Type 0} (place : Place) (broken : Rule) (read : List ℕ → ℕ → A) (check : List A → A → Result (Unit {0}) Rule) where
   unfoldable pub scan : ℕ → List ℕ → ℕ → List A → Reading A
   scan zero s at before =
       formed broken s at (record_at place s at) (λ next. wrong broken at (next - at)) (right before)

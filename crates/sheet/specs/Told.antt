@@ -1,17 +1,23 @@
 -- What the reading functions tell of a list of records: how many there are, or the first wrong one.
-use Rattle.std.specs.Prelude.{ℕ, length}
+use Rattle.std.specs.Prelude.{ℕ, length, ◌-◌, List, Option, Some, None, Result, Ok, Err}
 use Rattle.sheet.specs.Records.{Reading, right, wrong}
-use Rattle.sheet.specs.Refusals.{number_of}
-use Rattle.sheet.specs.declared.check.Checked.{Checked}
-use Rattle.sheet.specs.declared.check.Checked.TheVariants.{Accepted, Refused}
-use Rattle.sheet.specs.declared.reading.Told.{Told}
-use Rattle.sheet.specs.declared.reading.Told.TheVariants.{Right, Wrong}
+use Rattle.sheet.specs.declared.listing.Wrong.{Wrong}
+use Rattle.sheet.specs.declared.records.Found.{Found}
+use Rattle.sheet.specs.declared.records.Found.TheVariants.{Record, WrongKind, CutShort, Ended}
+use Rattle.sheet.specs.declared.rules.Rule.{Rule}
 
-abbrev pub told_of : {A : Type 0} → Reading A → Told
-told_of (right records) = Right (length records)
-told_of (wrong rule start size) = Wrong rule start size
+-- at a record: where the next begins, or nothing at the end, or the rule that its form breaks
+abbrev pub next_of : Rule → List ℕ → ℕ → Found → Result (Option ℕ) Wrong
+next_of form s at (Record next) = Ok (Some next)
+next_of form s at WrongKind = Err (record { rule = form; start = at; size = 1 })
+next_of form s at CutShort = Err (record { rule = form; start = at; size = length s - at })
+next_of form s at Ended = Ok None
 
--- as the answer of a check, on a sheet of n switches
-abbrev pub checked_of : ℕ → Told → Checked
-checked_of n (Right cables) = Accepted n cables
-checked_of n (Wrong rule start size) = Refused (number_of rule)
+abbrev pub told_of : {A : Type 0} → Reading A → Result ℕ Wrong
+told_of (right records) = Ok (length records)
+told_of (wrong rule start size) = Err (record { rule = rule; start = start; size = size })
+
+-- and with the records of a list that is all right
+abbrev pub reading_of : {A T : Type 0} → (T → List A) → Result T Wrong → Reading A
+reading_of records (Ok read) = right (records read)
+reading_of records (Err first) = wrong first.rule first.start first.size

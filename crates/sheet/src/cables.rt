@@ -6,7 +6,7 @@ use crate::numbers::{Port, Switch};
 use crate::records::byte_at;
 
 // One end of a cable.
-#[derive(Clone, Copy, Drop)]
+#[derive(Clone, Copy, Debug, PartialEq, Eq)]
 pub struct End {
     pub switch: u8,
     pub port: u8,
@@ -14,7 +14,7 @@ pub struct End {
 }
 
 // A cable, written from one of its ends.
-#[derive(Clone, Copy, Drop)]
+#[derive(Clone, Copy, Debug, PartialEq, Eq)]
 pub struct Cable {
     pub near: End,
     pub far: End,
@@ -24,7 +24,7 @@ impl End {
     pub(crate) fn is_at(self, v: Switch, p: Port) -> bool
         ensures { result ≡ is_at v.0 p.0 self }
     {
-        self.switch as u64 == v.0 && self.port as u64 == p.0
+        Switch::from(self.switch) == v && Port::from(self.port) == p
     }
 }
 
@@ -33,11 +33,9 @@ impl Cable {
     pub(crate) fn turned(self) -> Cable
         ensures { result ≡ turned self }
     {
-        let near = self.near;
-        let far = self.far;
         Cable {
-            near: far,
-            far: near,
+            near: self.far,
+            far: self.near,
         }
     }
 
@@ -45,12 +43,7 @@ impl Cable {
     pub(crate) fn carries(self, v: Switch, p: Port) -> bool
         ensures { result ≡ carries v.0 p.0 self }
     {
-        let near = self.near;
-        let far = self.far;
-        if near.is_at(v, p) {
-            return true;
-        }
-        far.is_at(v, p)
+        self.near.is_at(v, p) || self.far.is_at(v, p)
     }
 }
 

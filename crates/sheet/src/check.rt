@@ -1,84 +1,85 @@
 // Check of a sheet, and of a fault list against a sheet; and the row that is wrong.
 ghost use Rattle.std.specs.Prelude.{◌≡◌};
 ghost use Rattle.sheet.specs.Refusals.{answer_of, sheet_answer, list_answer};
-ghost use Rattle.sheet.specs.Told.{checked_of};
 ghost use Rattle.sheet.specs.FaultyRow.{IsPart, faulty_part};
 
-use crate::reading::{Told, read_faults, read_sheet};
+use crate::reading::{read_faults, read_sheet};
 use crate::records::byte_at;
-use crate::used::no_port_used;
+use crate::refusals::Refusal;
+use crate::used::Rows;
 
-// Accepted with the number of switches and of cables, or refused with the number.
-#[derive(Clone, Copy, Drop)]
-pub enum Checked {
-    Accepted(u64, u64),
-    Refused(u64),
+// How many switches and cables an accepted sheet has.
+#[derive(Clone, Copy, Debug, PartialEq, Eq)]
+pub struct Accepted {
+    pub switches: u64,
+    pub cables: u64,
 }
 
-// What a reading comes to on a sheet of n switches.
-fn answer_of(told: Told, n: u64) -> Checked
-    ensures { result ≡ checked_of n told }
-{
-    match told {
-        Told::Right(cables) => Checked::Accepted(n, cables),
-        Told::Wrong(rule, _, _) => Checked::Refused(rule.number()),
-    }
-}
-
-pub fn check_sheet(sheet: &[u8]) -> Checked
+pub fn check_sheet(sheet: &[u8]) -> Result<Accepted, Refusal>
     ensures { answer_of result ≡ sheet_answer sheet.now }
 {
-    let mut used = no_port_used();
-    let told = read_sheet(sheet, &mut used);
-    answer_of(told, byte_at(sheet, 1) as u64)
-}
-
-// The sheet, then the fault list against it.
-pub fn check_faults(sheet: &[u8], faults: &[u8]) -> Checked
-    ensures { answer_of result ≡ list_answer sheet.now faults.now }
-{
-    let mut used = no_port_used();
-    let n = byte_at(sheet, 1) as u64;
-    let told = read_sheet(sheet, &mut used);
-    let Told::Right(cables) = told else {
-        return answer_of(told, n);
-    };
-    let list = read_faults(faults, &used);
-    let Told::Right(_) = list else {
-        return answer_of(list, n);
-    };
-    Checked::Accepted(n, cables)
+    let mut rows = Rows::new(sheet);
+    read_sheet(&mut rows)?;
+    Ok(Accepted {
+        switches: u64::from(byte_at(sheet, 1)),
+        cables: rows.count as u64,
+    })
 }
 
 // Where the first wrong record stands: its start and its length. The empty part at the sheet's front where nothing is wrong.
-#[derive(Clone, Copy, Drop)]
+#[derive(Clone, Copy, Debug, PartialEq, Eq)]
 pub enum Part {
     OfSheet(usize, usize),
     OfFaults(usize, usize),
 }
 
-pub fn faulty_part(sheet: &[u8], faults: &[u8]) -> Part
-    ensures { result ≡ faulty_part sheet.now faults.now }
-{
-    let mut used = no_port_used();
-    let told = read_sheet(sheet, &mut used);
-    if let Told::Wrong(_, start, size) = told {
-        return Part::OfSheet(start, size);
-    }
-    let list = read_faults(faults, &used);
-    if let Told::Wrong(_, start, size) = list {
-        return Part::OfFaults(start, size);
-    }
-    Part::OfSheet(0, 0)
+// The bytes of a sheet and of a fault list.
+#[derive(Clone, Copy)]
+pub struct Lists<'a> {
+    pub sheet: &'a [u8],
+    pub faults: &'a [u8],
 }
 
-// The first wrong record as it stands in the caller's bytes.
-pub fn faulty_row<'a>(sheet: &'a [u8], faults: &'a [u8]) -> &'a [u8]
-    ensures { IsPart sheet.entry faults.entry (faulty_part sheet.now faults.now) result }
-{
-    let part = faulty_part(sheet, faults);
-    match part {
-        Part::OfSheet(start, size) => &sheet[start..start + size],
-        Part::OfFaults(start, size) => &faults[start..start + size],
+impl<'a> Lists<'a> {
+    // The sheet, then the fault list against it.
+    pub fn check_faults(&self) -> Result<Accepted, Refusal>
+        ensures { answer_of result ≡ list_answer self.now.sheet.now self.now.faults.now }
+    {
+        let mut rows = Rows::new(self.sheet);
+        let read = read_sheet(&mut rows);
+        let Ok(()) = read else {
+            return Err(read.unwrap_err().into());
+        };
+        let list = read_faults(self.faults, &rows);
+        let Ok(_) = list else {
+            return Err(list.unwrap_err().into());
+        };
+        Ok(Accepted {
+            switches: u64::from(byte_at(self.sheet, 1)),
+            cables: rows.count as u64,
+        })
+    }
+
+    pub fn faulty_part(&self) -> Part
+        ensures { result ≡ faulty_part self.now.sheet.now self.now.faults.now }
+    {
+        let mut rows = Rows::new(self.sheet);
+        if let Err(first) = read_sheet(&mut rows) {
+            return Part::OfSheet(first.start, first.size);
+        }
+        if let Err(first) = read_faults(self.faults, &rows) {
+            return Part::OfFaults(first.start, first.size);
+        }
+        Part::OfSheet(0, 0)
+    }
+
+    // The first wrong record as it stands in the caller's bytes.
+    pub fn faulty_row(&self) -> &'a [u8]
+        ensures { IsPart self.now.sheet self.now.faults (faulty_part self.now.sheet.now self.now.faults.now) result }
+    {
+        match self.faulty_part() {
+            Part::OfSheet(start, size) => &self.sheet[start..start + size],
+            Part::OfFaults(start, size) => &self.faults[start..start + size],
+        }
     }
 }

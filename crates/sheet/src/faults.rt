@@ -12,8 +12,8 @@ fn names(faults: &[u8], at: usize, c: Cable) -> bool
     requires { at < length faults.now }
     ensures { result ≡ carries (fault_at faults.now at).switch (fault_at faults.now at).port c }
 {
-    let switch = Switch(byte_at(faults, at + 1) as u64);
-    let port = Port(byte_at(faults, at + 2) as u64);
+    let switch = Switch::from(byte_at(faults, at + 1));
+    let port = Port::from(byte_at(faults, at + 2));
     c.carries(switch, port)
 }
 
@@ -22,17 +22,14 @@ pub fn is_live(c: Cable, faults: &[u8]) -> bool
     ensures { result ≡ live (faults_of faults.now) c }
 {
     let mut at: usize = 0;
-    let mut room: usize = MOST_RECORDS;
-    while 0 < room {
-        let found = record_at(faults, at, FAULT);
-        let Found::Record(next) = found else {
+    for _ in 0..MOST_RECORDS {
+        let Found::Record(next) = record_at(faults, at, FAULT) else {
             return true;
         };
         if names(faults, at, c) {
             return false;
         }
         at = next;
-        room -= 1;
     }
     true
 }

@@ -1,13 +1,32 @@
 // Three kinds of number that must not be taken for one another. Each holds any number that an agent may pass.
+ghost use Rattle.std.specs.Prelude.{◌≡◌};
 
 // A switch, 1 to n on a sheet of n switches.
-#[derive(Clone, Copy, Drop)]
+#[derive(Clone, Copy, Debug, PartialEq, Eq, PartialOrd, Ord)]
 pub struct Switch(pub u64);
 
 // A port of a switch, 1 to 48; 0 is no port.
-#[derive(Clone, Copy, Drop)]
+#[derive(Clone, Copy, Debug, PartialEq, Eq, PartialOrd, Ord)]
 pub struct Port(pub u64);
 
+pub const NO_PORT: Port = Port(0);
+
 // A place in a switch's port order, counted from 0.
-#[derive(Clone, Copy, Drop)]
+#[derive(Clone, Copy, Debug, PartialEq, Eq, PartialOrd, Ord)]
 pub struct Position(pub u64);
+
+impl From<u8> for Switch {
+    ghost from_gives = { λ byte v. v.0 ≡ byte };
+
+    fn from(byte: u8) -> Switch {
+        Switch(byte as u64)
+    }
+}
+
+impl From<u8> for Port {
+    ghost from_gives = { λ byte p. p.0 ≡ byte };
+
+    fn from(byte: u8) -> Port {
+        Port(byte as u64)
+    }
+}

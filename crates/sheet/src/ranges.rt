@@ -6,17 +6,11 @@ ghost use Rattle.sheet.specs.Cables.{within};
 pub fn is_within(most: u64, k: u64) -> bool
     ensures { result ≡ within most k }
 {
-    if k < 1 {
-        return false;
-    }
-    k <= most
+    (1..=most).contains(&k)
 }
 
 pub fn are_within(most: u64, j: u64, k: u64) -> bool
     ensures { result ≡ both (within most j) (within most k) }
 {
-    if is_within(most, j) {
-        return is_within(most, k);
-    }
-    false
+    is_within(most, j) && is_within(most, k)
 }

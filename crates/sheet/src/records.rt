@@ -3,8 +3,8 @@ ghost use Rattle.std.specs.Prelude.{◌≡◌, ◌+◌, get_or, replicate};
 ghost use Rattle.sheet.specs.Records.{record_at, form_of};
 ghost use Rattle.sheet.specs.Sizes.{longest_sheet, longest_list};
 
-// Where a kind of record may stand.
-#[derive(Clone, Copy, Drop)]
+// Where a kind of record may stand. A number and no enum: `record_at` promises its answer for every Place that a caller makes.
+#[derive(Clone, Copy, Debug, PartialEq, Eq)]
 pub struct Place(pub u8);
 
 pub const NOWHERE: Place = Place(0);
@@ -18,7 +18,7 @@ pub const FAULT: Place = Place(3);
 pub const ASK: Place = Place(4);
 
 // The length of a record's body, and where the record may stand.
-#[derive(Clone, Copy, Drop)]
+#[derive(Clone, Copy, Debug, PartialEq, Eq)]
 pub struct Form {
     pub body: usize,
     pub place: Place,
@@ -60,7 +60,7 @@ const LONGEST_LIST: usize = (1 + FORMS[3].body) * MOST_RECORDS;
 pub const ASK_SIZE: usize = 1 + FORMS[4].body;
 
 // What the walker finds at a position.
-#[derive(Clone, Copy, Drop)]
+#[derive(Clone, Copy, Debug, PartialEq, Eq)]
 pub enum Found {
     // A whole record; the next begins here.
     Record(usize),
@@ -97,7 +97,7 @@ pub fn record_at(bytes: &[u8], at: usize, place: Place) -> Found
         return Found::Ended;
     }
     let form = form_of(bytes[at]);
-    if form.place.0 != place.0 {
+    if form.place != place {
         return Found::WrongKind;
     }
     let body = form.body;
@@ -108,7 +108,8 @@ pub fn record_at(bytes: &[u8], at: usize, place: Place) -> Found
     }
 }
 
-// Room for one byte more than the longest sheet has, so that a longer one shows.
+// Room for one byte more than the longest sheet has, so that a longer one shows. One function for both lists would promise the zeros, and
+// not that the size is the table's.
 pub fn sheet_buffer() -> [u8; LONGEST_SHEET + 1]
     ensures { result ≡ replicate (longest_sheet + 1) 0 }
 {

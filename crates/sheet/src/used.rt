@@ -1,64 +1,88 @@
-// Which ports are used: a number for each switch, in which bit p stands for port p. 512 bytes serve all switches.
-ghost use Rattle.std.specs.Prelude.{◌≡◌, List, ◌∷◌, [], ◌++◌, ℕ, eqb, length, replicate};
-ghost use Rattle.sheet.specs.Lists.{both, either};
-ghost use Rattle.sheet.specs.Sound.{Within, EndInRange};
-ghost use Rattle.sheet.specs.Used.{marked, Marks};
-ghost use Rattle.sheet.specs.declared.cables.Cable.{Cable as Row};
+// The rows of a sheet that were read, and the ports that they use.
+ghost use Rattle.std.specs.Prelude.{◌≡◌, ◌∷◌, [], ◌++◌, ℕ, ◌+◌, ◌≤◌, ◌<◌, eqb, length, replicate};
+ghost use Rattle.sheet.specs.Lists.{either};
+ghost use Rattle.sheet.specs.Sound.{EndInRange};
+ghost use Rattle.sheet.specs.Cables.{cabled, is_at};
+ghost use Rattle.sheet.specs.Used.{marked, Marks, first_rows};
 
-use crate::cables::Cable;
+use crate::cables::{Cable, End};
 use crate::numbers::{Port, Switch};
 use crate::ranges::is_within;
 
+// The first `count` rows of a sheet of so many switches. Which ports they use is kept as a number for each switch, in which bit p stands
+// for port p: 512 bytes serve all switches.
+#[derive(Drop)]
+pub struct Rows<'a> {
+    pub sheet: &'a [u8],
+    pub switches: u64,
+    pub count: usize,
+    used: [u64; 64],
+    pub ghost few: { switches ≤ 64 },
+    ghost marks: { Marks used (first_rows sheet.now count) },
+}
+
 // No port is used yet.
-pub fn no_port_used() -> [u64; 64]
+fn no_port_used() -> [u64; 64]
     ensures { result ≡ replicate 64 0 }
 {
     [0; 64]
 }
 
-pub fn is_used(used: &[u64; 64], v: Switch, p: Port) -> bool
-    ensures { result ≡ marked used.now v.0 p.0 }
-{
-    let switch = v.0;
-    let port = p.0;
-    if is_within(64, switch) {
-        if is_within(48, port) {
-            let i = (switch - 1) as usize;
-            let word = used[i];
-            return (word >> port) % 2 == 1;
-        }
-        return false;
-    }
-    false
-}
-
-// A port within the ranges is used from now on.
-pub fn use_port(used: &mut [u64; 64], v: Switch, p: Port)
-    requires { (length used.old ≡ 64) × Within 64 v.0 × Within 48 p.0 }
+// The port of an end within the ranges is used from now on.
+fn use_port(used: &mut [u64; 64], end: End)
+    requires { (length used.old ≡ 64) × EndInRange 64 end }
     ensures used_len { length used.new ≡ 64 }
-    ensures by_index { (w q : ℕ) → marked used.new w q ≡ either (both (eqb v.0 w) (eqb p.0 q)) (marked used.old w q) }
+    ensures by_index { (v p : ℕ) → marked used.new v p ≡ either (is_at v p end) (marked used.old v p) }
 {
-    let i = (v.0 - 1) as usize;
-    let word = used[i];
-    used[i] = word | (1 << p.0);
+    used[end.switch as usize - 1] |= 1 << end.port;
 }
 
-// Both ends of a cable.
-pub fn use_cable(used: &mut [u64; 64], c: Cable)
-    requires { (length used.old ≡ 64) × EndInRange 64 c.near × EndInRange 64 c.far }
-    ensures { (rows : List Row) → Marks used.old rows → Marks used.new (rows ++ (c ∷ [])) }
-{
-    use_port(used, Switch(c.near.switch as u64), Port(c.near.port as u64));
-    use_port(used, Switch(c.far.switch as u64), Port(c.far.port as u64));
-}
-
-// Whether either end of a cable has a port that is used.
-pub fn is_either_used(used: &[u64; 64], c: Cable) -> bool
-    ensures { result ≡ either (marked used.now c.near.switch c.near.port)
-        (marked used.now c.far.switch c.far.port) }
-{
-    if is_used(used, Switch(c.near.switch as u64), Port(c.near.port as u64)) {
-        return true;
+impl<'a> Rows<'a> {
+    // Nothing of the sheet is read yet.
+    pub fn new(sheet: &'a [u8]) -> Rows<'a>
+        ensures { (result.sheet.now ≡ sheet.now) × (result.count ≡ 0) }
+    {
+        Rows {
+            sheet,
+            switches: 0,
+            count: 0,
+            used: no_port_used(),
+        }
     }
-    is_used(used, Switch(c.far.switch as u64), Port(c.far.port as u64))
+
+    // Whether a row has an end at this port of this switch.
+    pub fn is_used(&self, v: Switch, p: Port) -> bool
+        ensures { result ≡ cabled (first_rows self.now.sheet.now self.now.count) v.0 p.0 }
+    {
+        is_within(64, v.0) && is_within(48, p.0) && (self.used[(v.0 - 1) as usize] >> p.0) % 2 == 1
+    }
+
+    // Whether the port of an end is used.
+    fn is_end_used(&self, end: End) -> bool
+        ensures { result ≡ cabled (first_rows self.now.sheet.now self.now.count) end.switch end.port }
+    {
+        self.is_used(end.switch.into(), end.port.into())
+    }
+
+    // Whether either end of a cable has a port that is used.
+    pub fn is_either_used(&self, c: Cable) -> bool
+        ensures { let rows = first_rows self.now.sheet.now self.now.count in
+            result ≡ either (cabled rows c.near.switch c.near.port) (cabled rows c.far.switch c.far.port) }
+    {
+        self.is_end_used(c.near) || self.is_end_used(c.far)
+    }
+
+    // The sheet's next row: both ends use a port from now on.
+    pub fn use_cable(&mut self, c: Cable)
+        requires range { EndInRange 64 c.near × EndInRange 64 c.far }
+        requires room { self.old.count < 512 }
+        requires next { first_rows self.old.sheet.now (self.old.count + 1)
+            ≡ first_rows self.old.sheet.now self.old.count ++ (c ∷ []) }
+        ensures counted { self.new.count ≡ self.old.count + 1 }
+        ensures same { (self.new.sheet.now ≡ self.old.sheet.now) × (self.new.switches ≡ self.old.switches) }
+    {
+        use_port(&mut self.used, c.near);
+        use_port(&mut self.used, c.far);
+        self.count += 1;
+    }
 }

@@ -26,7 +26,7 @@ use Rattle.switch.specs.Answers.{paper}
 use Rattle.switch.specs.Checks.{nonzero, checks}
 use Rattle.switch.specs.Step.{Stepped, stopped, far_of, moved, advanced, unless, stepped}
 use Rattle.switch.specs.declared.cell.Cell.{Cell}
-use Rattle.switch.specs.declared.checks.Check.TheVariants.{Passed}
+use Rattle.switch.specs.Checks.{Passed}
 use Rattle.switch.proofs.Choosing.{chosen}
 use Rattle.switch.proofs.Tag.{with_other, cell_with, writes_kept, writes_length, advance_writes}
 use Rattle.switch.proofs.Stepping.{Advances, delivered, undelivered, forwarded, advances, stepped_accepted}

@@ -1,5 +1,5 @@
 -- The first bytes of a tag: one of them is not 0 exactly if the test of rule 9 finds one; and a walk over them that has met only 0.
-use Prim.Native.Nat.{ℕ, zero, suc, ◌+◌, ◌*◌, ◌≤◌, ◌<◌}
+use Prim.Native.Nat.{ℕ, zero, suc, ◌*◌, ◌<◌}
 use mathlib.Core.Path.{◌≡◌, refl}
 use mathlib.Core.List.{List, [], ◌∷◌}
 use mathlib.Core.Bool.{Bool, true, false, not}
@@ -7,6 +7,7 @@ use native.Mathlib.Omega.{arith}
 use lib.ListN.{get_or, take}
 use lib.Dec.{eqb}
 use borrow.Author.Tests.{eqb-false, ne_eqb, eqb-true}
+use Rattle.std.specs.Prelude.{◌↔◌, IsTrue, All}
 use Rattle.sheet.specs.Lists.{either, any}
 use Rattle.sheet.proofs.Tests.{Decides, true≢false}
 use Rattle.switch.specs.Checks.{nonzero}
@@ -40,28 +41,29 @@ marked n tag = (
   λ h. marked_any (2 * n) tag h.at h.inside h.marked,
 )
 
--- ---- the walk
+-- ---- the bytes that are all 0
 
--- the bytes before a position are all 0
-pub record Blank (tag : List ℕ) (i : ℕ) : Type 0 where
-  pub zeros : (j : ℕ) → j < i → get_or tag j 0 ≡ 0
+none_marked : (bytes : List ℕ) → All (λ byte. byte ≡ 0) bytes → any nonzero bytes ≡ false
+none_marked [] zeros = refl
+none_marked (b ∷ bytes) zeros = rw (zeros 0 0 (omega arith)) (none_marked bytes (λ k d inside. zeros (suc k) d (omega arith)))
 
-pub blank_none : (tag : List ℕ) → Blank tag 0
-blank_none tag = record { zeros = λ j below. absurd (omega arith) }
-
-pub blank_next : {tag : List ℕ} {i : ℕ} → Blank tag i → get_or tag i 0 ≡ 0 → Blank tag (i + 1)
-blank_next {tag} {i} blank here = record { zeros = λ j below. go j below (eqb j i) refl }
+first_zero : (b : ℕ) (rest : Bool) → either (nonzero b) rest ≡ false → (b ≡ 0) × (rest ≡ false)
+first_zero b rest = go (eqb b 0) refl
   where
-    go : (j : ℕ) → j < i + 1 → (b : Bool) → eqb j i ≡ b → get_or tag j 0 ≡ 0
-    go j below true e = rw (eqb-true j i e) here
-    go j below false e = let other : j ≡ i → ⊥ = eqb-false j i e in blank.zeros j (omega arith)
+    go : (z : Bool) → eqb b 0 ≡ z → either (not z) rest ≡ false → (b ≡ 0) × (rest ≡ false)
+    go true e none = (eqb-true b 0 e, none)
+    go false e none = absurd (true≢false refl none)
 
-pub blank_all : {tag : List ℕ} {i size : ℕ} → Blank tag i → size ≤ i → true ≡ not (any nonzero (take size tag))
-blank_all {tag} {i} {size} blank over = go (any nonzero (take size tag)) refl
+all_zero : (bytes : List ℕ) → any nonzero bytes ≡ false → All (λ byte. byte ≡ 0) bytes
+all_zero [] none k d inside = absurd (omega arith)
+all_zero (b ∷ bytes) none zero d inside = (first_zero b (any nonzero bytes) none).0
+all_zero (b ∷ bytes) none (suc k) d inside = all_zero bytes (first_zero b (any nonzero bytes) none).1 k d (omega arith)
+
+-- a test that says so is the test of rule 9, turned round
+pub blank_is : (bytes : List ℕ) (blank : Bool) → IsTrue blank ↔ All (λ byte. byte ≡ 0) bytes → blank ≡ not (any nonzero bytes)
+blank_is bytes blank says = go (any nonzero bytes) refl blank says
   where
-    go : (b : Bool) → any nonzero (take size tag) ≡ b → true ≡ not b
-    go false e = refl
-    go true e = let (j, inside, not-0) = any_marked size tag e in absurd (not-0 (blank.zeros j (omega arith)))
-
-pub blank_not : (tag : List ℕ) (i size : ℕ) → i < size → Not (get_or tag i 0 ≡ 0) → false ≡ not (any nonzero (take size tag))
-blank_not tag i size inside not-0 = rw (marked_any size tag i inside not-0)
+    go : (some : Bool) → any nonzero bytes ≡ some → (blank : Bool) → IsTrue blank ↔ All (λ byte. byte ≡ 0) bytes → blank ≡ not some
+    go false e blank says = says.1 (all_zero bytes e)
+    go true e true says = absurd (true≢false e (none_marked bytes (says.0 refl)))
+    go true e false says = refl

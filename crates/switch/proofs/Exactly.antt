@@ -27,8 +27,8 @@ use Rattle.switch.specs.Step.{Stepped, unless, stepped, advanced}
 use Rattle.switch.specs.Exactly.{Not, Row, row, FirstBroken, NoneBroken, table, StepRefused, by_lists, by_table}
 use Rattle.switch.specs.Exactly.{Breaks6, Breaks7, Breaks8, Breaks9, Breaks10}
 use Rattle.switch.specs.declared.cell.Cell.{Cell}
-use Rattle.switch.specs.declared.checks.Check.{Check}
-use Rattle.switch.specs.declared.checks.Check.TheVariants.{Passed, Refused}
+use Rattle.switch.specs.Checks.{Check}
+use Rattle.switch.specs.Checks.{Passed, Refused}
 use Rattle.switch.proofs.Failing.{Fails, not_refuted, fails_not, not_fails, fails-≤, fails_both, fails_either, uncabled, unusable}
 use Rattle.switch.proofs.Blank.{marked}
 use Rattle.switch.proofs.Stepping.{lists_rows, lists_faults, lists_sound, Advances, delivered, undelivered, forwarded, advances}

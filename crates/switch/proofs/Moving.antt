@@ -5,18 +5,18 @@ use mathlib.Core.Path.{◌≡◌, ap, sym, ◌∙◌}
 use mathlib.Core.List.{List}
 use mathlib.Core.Bool.{Bool, true, false}
 use lib.Dec.{eqb}
+use Rattle.std.specs.Prelude.{Option, Some, None}
 use borrow.Author.Tests.{eq-eqb, ne_eqb}
 use Rattle.sheet.specs.Lists.{pick}
 use Rattle.sheet.specs.Faults.{faults_of}
 use Rattle.sheet.specs.declared.cables.Cable.{Cable}
-use Rattle.sheet.specs.declared.numbers.Port.{Port}
 use Rattle.switch.specs.Choice.{Outcome, choose, outcome_of, Storable}
 use Rattle.switch.specs.Cell.{CellFits, cell_of, with_cell, entered, left_by}
-use Rattle.switch.specs.Answers.{move_paper}
-use Rattle.switch.specs.Step.{Stepped, nowhere, far_of, moved, advanced, away_of, told_move}
+use Rattle.switch.specs.Answers.{paper}
+use Rattle.switch.specs.Step.{Stepped, far_of, moved, advanced, away_of, told_move}
 use Rattle.switch.specs.declared.cell.Cell.{Cell}
-use Rattle.switch.specs.declared.choice.Choice.{Choice}
-use Rattle.switch.specs.declared.step.Moved.{Moved}
+use Rattle.sheet.specs.declared.order.FarEnd.{FarEnd}
+use Rattle.switch.specs.declared.choice.Leave.{Leave}
 use Rattle.switch.specs.declared.step.Move.TheVariants.{Leaves, Delivered, Nowhere}
 
 -- ---- ports that fit a byte
@@ -31,7 +31,7 @@ entered_fits {old} {new} {arrival} fits small e = rw e (record { parent = go (eq
 pub left_fits : {old new : Cell} {port : ℕ} → CellFits old → port < 256 → new ≡ left_by old port → CellFits new
 left_fits fits small e = rw e (record { parent = fits.parent; current = small })
 
-pub stored_fits : {choice : Choice} {port current : Port} → choice ≡ Choice.Leaves port current → Storable choice → current.0 < 256
+pub stored_fits : {choice : Option Leave} {leave : Leave} → choice ≡ Some leave → Storable choice → leave.current.0 < 256
 stored_fits e storable = rw e at storable
 
 -- ---- where the packet goes
@@ -40,9 +40,9 @@ module _ (order : List Cable) (f tag : List ℕ) (v arrival d : ℕ) where
   abbrev answer : Stepped
   answer = advanced order f tag v arrival d
 
-  pub at_destination : (r : Moved) → v ≡ d → r.go ≡ Delivered → away_of r.far ≡ nowhere → told_move r tag ≡ answer
+  pub at_destination : v ≡ d → told_move Delivered tag ≡ answer
   unfolding advanced
-  at_destination r here go far = rw (eq-eqb v d here) (λ i. record { paper = move_paper (go i); far = far i; tag = tag })
+  at_destination here = rw (eq-eqb v d here)
 
   module _ (away : v ≡ d → ⊥) {cell : Cell} (entry : cell ≡ entered (cell_of tag v) arrival) where
     elsewhere : {o : Outcome} → o ≡ choose (faults_of f) cell.parent.0 cell.current.0 order → moved order tag v cell o ≡ answer
@@ -52,13 +52,12 @@ module _ (order : List Cable) (f tag : List ℕ) (v arrival d : ℕ) where
         (ap (moved order tag v cell) e
         ∙ ap (λ c. moved order tag v c (choose (faults_of f) c.parent.0 c.current.0 order)) entry)
 
-    module _ {choice : Choice} (chosen : outcome_of choice ≡ choose (faults_of f) cell.parent.0 cell.current.0 order) where
-      pub goes_nowhere : (r : Moved) → choice ≡ Choice.Stays → r.go ≡ Nowhere → away_of r.far ≡ nowhere → told_move r tag ≡ answer
-      goes_nowhere r stay go far =
-          (λ i. record { paper = move_paper (go i); far = far i; tag = tag }) ∙ elsewhere (ap outcome_of (sym stay) ∙ chosen)
+    module _ {choice : Option Leave} (chosen : outcome_of choice ≡ choose (faults_of f) cell.parent.0 cell.current.0 order) where
+      pub goes_nowhere : choice ≡ None → told_move Nowhere tag ≡ answer
+      goes_nowhere stay = elsewhere (ap outcome_of (sym stay) ∙ chosen)
 
-      pub goes_by : (r : Moved) {port current : Port} {written : List ℕ} → choice ≡ Choice.Leaves port current → r.go ≡ Leaves port
-          → away_of r.far ≡ far_of order port.0 → written ≡ with_cell tag v (left_by cell current.0)
-          → told_move r written ≡ answer
-      goes_by r leave go far write =
-          (λ i. record { paper = move_paper (go i); far = far i; tag = write i }) ∙ elsewhere (ap outcome_of (sym leave) ∙ chosen)
+      pub goes_by : (far : FarEnd) {leave : Leave} {written : List ℕ} → choice ≡ Some leave
+          → away_of far ≡ far_of order leave.port.0 → written ≡ with_cell tag v (left_by cell leave.current.0)
+          → told_move (Leaves leave.port far) written ≡ answer
+      goes_by far {leave} out away write =
+          (λ i. record { paper = paper 0 leave.port.0 0; far = away i; tag = write i }) ∙ elsewhere (ap outcome_of (sym out) ∙ chosen)

@@ -7,25 +7,25 @@ use mathlib.Core.Bool.{Bool, true, false}
 use native.Mathlib.Omega.{arith}
 use lib.ListN.{length}
 use lib.Dec.{leb, eqb}
+use Rattle.std.specs.Prelude.{Result, Ok, Err}
 use borrow.Author.Tests.{leb-true, eqb-true}
 use Rattle.sheet.specs.Lists.{both, either, ◌∈◌}
 use Rattle.sheet.specs.Cables.{rows_of, within}
 use Rattle.sheet.specs.Order.{port_order, is_cabled, is_live}
-use Rattle.sheet.specs.Refusals.{accepted, refused, list_answer, answer_of}
+use Rattle.sheet.specs.Refusals.{accepted, list_answer, answer_of, refusal_number}
 use Rattle.sheet.specs.declared.cables.Cable.{Cable}
-use Rattle.sheet.specs.declared.check.Checked.{Checked}
+use Rattle.sheet.specs.declared.check.Accepted.{Accepted}
+use Rattle.sheet.specs.declared.refusals.Refusal.{Refusal}
 use Rattle.sheet.proofs.Lists.{both_true}
 use Rattle.sheet.proofs.Rows.{decides_within}
 use Rattle.sheet.proofs.Cabling.{position_found, ends_apart}
 use Rattle.sheet.proofs.Exactly.{both_accepted}
 use Rattle.switch.specs.Cell.{CellInside, cell_of}
-use Rattle.switch.specs.Answers.{paper, paper_of, move_paper}
-use Rattle.switch.specs.Checks.{rule, number_of, switches_rule, tag_rule, arrival_rule, fresh_rule, cell_rule, first_broken, checks}
-use Rattle.switch.specs.Step.{nowhere, away_of, told, told_move, lists_number, advanced, stepped}
-use Rattle.switch.specs.declared.checks.Check.{Check}
-use Rattle.switch.specs.declared.checks.Check.TheVariants.{Passed, Refused}
-use Rattle.switch.specs.declared.step.Answer.{Answer as StepAnswer}
-use Rattle.switch.specs.declared.step.Moved.{Moved}
+use Rattle.switch.specs.Checks.{check_of, rule, switches_rule, tag_rule, arrival_rule, fresh_rule, cell_rule, first_broken, checks}
+use Rattle.switch.specs.Step.{Ready, told, told_move, advanced, stepped}
+use Rattle.switch.specs.Checks.{Check}
+use Rattle.switch.specs.Checks.{Passed, Refused}
+use Rattle.switch.specs.declared.step.Move.{Move}
 use Rattle.switch.proofs.Stepping.{lists_rows, lists_sound, stepped_refused, stepped_accepted}
 
 -- ---- what a check that passes leaves
@@ -73,43 +73,67 @@ module _ (s f tag : List ℕ) (v arrival d : ℕ) where
     pub lists : list_answer s f ≡ accepted n cables
     pub same : checks n order f tag v arrival d ≡ first_broken rest
 
-  pub starts : {lists : Checked} {n cables : ℕ} → answer_of lists ≡ list_answer s f → lists ≡ Checked.Accepted n cables
-      → Upto n
-      (switches_rule n v d
-      ∷ tag_rule n tag
+  pub starts : {lists : Result Accepted Refusal} {accepts : Accepted} → answer_of lists ≡ list_answer s f → lists ≡ Ok accepts
+      → Upto accepts.switches
+      (switches_rule accepts.switches v d
+      ∷ tag_rule accepts.switches tag
       ∷ arrival_rule order f arrival
-      ∷ fresh_rule n tag arrival
+      ∷ fresh_rule accepts.switches tag arrival
       ∷ cell_rule order f (cell_of tag v)
       ∷ [])
   unfolding checks
-  starts {cables = cables} e e' = record { cables = cables; lists = sym e ∙ ap answer_of e'; same = refl }
+  starts {accepts = accepts} e e' = record { cables = accepts.cables; lists = sym e ∙ ap answer_of e'; same = refl }
 
-  module _ {n : ℕ} {check : Check} {rest : List Check} (upto : Upto n (check ∷ rest)) {result : Check} (is : result ≡ check) where
-    pub passes : result ≡ Passed → Upto n rest
+  module _ {n : ℕ} {check : Check} {rest : List Check} (upto : Upto n (check ∷ rest)) {result : Result (Unit {0}) Refusal}
+      (is : check_of result ≡ check) where
+    pub passes : {passed : Unit {0}} → result ≡ Ok passed → Upto n rest
     passes e =
-        record { cables = upto.cables; lists = upto.lists; same = upto.same ∙ ap (λ c. first_broken (c ∷ rest)) (sym is ∙ e) }
+        record {
+          cables = upto.cables;
+          lists = upto.lists;
+          same = upto.same ∙ ap (λ c. first_broken (c ∷ rest)) (sym is ∙ ap check_of e);
+        }
 
-    -- a refusal's number is passed on as it is
-    pub refuses : (r : StepAnswer) {number k : ℕ} → result ≡ Refused k → number ≡ number_of result
-        → (paper_of r.out ≡ paper 3 0 number) × (away_of r.far ≡ nowhere) → told r tag ≡ stepped s f tag v arrival d
-    refuses r {number} {k} e e' says =
-        let broken : checks n order f tag v arrival d ≡ Refused number =
-        upto.same ∙ ap (λ c. first_broken (c ∷ rest)) (sym is ∙ e) ∙ ap Refused (sym (e' ∙ ap number_of e)) in
-        (λ i. record { paper = says.0 i; far = says.1 i; tag = tag })
-        ∙ sym (stepped_accepted s f tag v arrival d upto.lists ∙ rw broken)
+    -- a refusal is passed on as it is
+    pub refuses : {refusal : Refusal} → result ≡ Err refusal → told (Err refusal) tag ≡ stepped s f tag v arrival d
+    refuses {refusal} e =
+        let broken : checks n order f tag v arrival d ≡ Refused (refusal_number refusal) =
+        upto.same ∙ ap (λ c. first_broken (c ∷ rest)) (sym is ∙ ap check_of e) in
+        sym (stepped_accepted s f tag v arrival d upto.lists ∙ rw broken)
 
-  pub refuses_lists : (r : StepAnswer) {lists : Checked} {number k : ℕ} → answer_of lists ≡ list_answer s f → lists ≡ Checked.Refused k
-      → number ≡ lists_number lists → (paper_of r.out ≡ paper 3 0 number) × (away_of r.far ≡ nowhere)
-      → told r tag ≡ stepped s f tag v arrival d
-  refuses_lists r {lists} {number} {k} e e' e'' says =
-      let same : list_answer s f ≡ refused number = sym e ∙ ap answer_of e' ∙ ap refused (sym (e'' ∙ ap lists_number e')) in
-      (λ i. record { paper = says.0 i; far = says.1 i; tag = tag }) ∙ sym (stepped_refused s f tag v arrival d same)
+  pub refuses_lists : {lists : Result Accepted Refusal} {refusal : Refusal} → answer_of lists ≡ list_answer s f → lists ≡ Err refusal
+      → told (Err refusal) tag ≡ stepped s f tag v arrival d
+  refuses_lists e e' = sym (stepped_refused s f tag v arrival d (sym e ∙ ap answer_of e'))
 
   -- after the last check
-  pub advances_then : {n : ℕ} → Upto n [] → (r : StepAnswer) (m : Moved) {written : List ℕ}
-      → (paper_of r.out ≡ move_paper m.go) × (away_of r.far ≡ away_of m.far)
-      → told_move m written ≡ advanced order f tag v arrival d → told r written ≡ stepped s f tag v arrival d
-  advances_then upto r m {written} says e =
-      (λ i. record { paper = says.0 i; far = says.1 i; tag = written })
-      ∙ e
-      ∙ sym (stepped_accepted s f tag v arrival d upto.lists ∙ rw upto.same)
+  pub advances_then : {n : ℕ} → Upto n [] → (m : Move) {written : List ℕ} → told_move m written ≡ advanced order f tag v arrival d
+      → told (Ok m) written ≡ stepped s f tag v arrival d
+  advances_then upto m e = e ∙ sym (stepped_accepted s f tag v arrival d upto.lists ∙ rw upto.same)
+
+  -- ---- the checks that are left after each, in the step's order
+
+  module _ {lists : Result Accepted Refusal} {accepts : Accepted} (says : answer_of lists ≡ list_answer s f) (listed : lists ≡ Ok accepts) where
+    module _ {six : Result (Unit {0}) Refusal} (says_6 : check_of six ≡ switches_rule accepts.switches v d) {done_6 : Unit {0}}
+        (is_6 : six ≡ Ok done_6) where
+      pub after_6 : Upto accepts.switches
+          (tag_rule accepts.switches tag ∷ arrival_rule order f arrival ∷ fresh_rule accepts.switches tag arrival
+          ∷ cell_rule order f (cell_of tag v) ∷ [])
+      after_6 = passes (starts says listed) says_6 is_6
+
+      module _ {seven : Result (Unit {0}) Refusal} (says_7 : check_of seven ≡ tag_rule accepts.switches tag) {done_7 : Unit {0}}
+          (is_7 : seven ≡ Ok done_7) where
+        pub after_7 : Upto accepts.switches
+            (arrival_rule order f arrival ∷ fresh_rule accepts.switches tag arrival ∷ cell_rule order f (cell_of tag v) ∷ [])
+        after_7 = passes after_6 says_7 is_7
+
+        module _ {eight : Result (Unit {0}) Refusal} (says_8 : check_of eight ≡ arrival_rule order f arrival) {done_8 : Unit {0}}
+            (is_8 : eight ≡ Ok done_8) where
+          pub after_8 : Upto accepts.switches (fresh_rule accepts.switches tag arrival ∷ cell_rule order f (cell_of tag v) ∷ [])
+          after_8 = passes after_7 says_8 is_8
+
+          -- what the step after the checks needs
+          pub ready : Ready tag v arrival
+          ready = record {
+            cell = cell_inside accepts.switches tag v d (sym says_6 ∙ ap check_of is_6) (sym says_7 ∙ ap check_of is_7);
+            byte = arrival_byte s f v arrival after_7.lists (sym says_8 ∙ ap check_of is_8);
+          }

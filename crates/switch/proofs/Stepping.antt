@@ -23,8 +23,8 @@ use Rattle.switch.specs.Cell.{cell_of, entered}
 use Rattle.switch.specs.Checks.{checks}
 use Rattle.switch.specs.Step.{Stepped, stopped, moved, advanced, unless, stepped_on, stepped}
 use Rattle.switch.specs.declared.cell.Cell.{Cell}
-use Rattle.switch.specs.declared.checks.Check.{Check}
-use Rattle.switch.specs.declared.checks.Check.TheVariants.{Passed, Refused}
+use Rattle.switch.specs.Checks.{Check}
+use Rattle.switch.specs.Checks.{Passed, Refused}
 
 -- ---- what accepted lists say of the step's arguments
 

@@ -26,8 +26,8 @@ use Rattle.switch.specs.Step.{Stepped, stopped, moved, advanced, unless, stepped
 use Rattle.switch.specs.Exactly.{Marked}
 use Rattle.switch.specs.Alike.{AlikeTags, AlikeSteps}
 use Rattle.switch.specs.declared.cell.Cell.{Cell}
-use Rattle.switch.specs.declared.checks.Check.{Check}
-use Rattle.switch.specs.declared.checks.Check.TheVariants.{Passed, Refused}
+use Rattle.switch.specs.Checks.{Check}
+use Rattle.switch.specs.Checks.{Passed, Refused}
 use Rattle.switch.proofs.Blank.{marked}
 use Rattle.switch.proofs.Stepping.{lists_rows, lists_sound, Advances, delivered, undelivered, forwarded, advances}
 use Rattle.switch.proofs.Stepping.{Steps, lists_refuse, check_refuses, passes, steps, stepped_refused, stepped_accepted}

@@ -6,19 +6,19 @@ use mathlib.Core.List.{List, [], ◌∷◌}
 use mathlib.Core.Bool.{Bool, true, false, not}
 use native.Mathlib.Omega.{arith}
 use native.Mathlib.Numerals.{add-one}
-use lib.ListN.{length, drop, drop_of_length-le, length-map}
+use lib.ListN.{length, drop, drop_of_length-le}
 use lib.Seq.{drop-cons}
 use lib.Dec.{leb, eqb}
+use Rattle.std.specs.Prelude.{Option, Some, None}
 use borrow.Author.Tests.{leb-true, le-leb, eq-eqb, ne_eqb}
 use Rattle.sheet.specs.Lists.{pick, both}
 use Rattle.sheet.specs.Cables.{Socket}
 use Rattle.sheet.specs.Faults.{live}
-use Rattle.sheet.specs.Order.{position_of, cable_of, no_cable, placed_cable, cables_at}
+use Rattle.sheet.specs.Order.{position_of, cable_of, no_cable}
 use Rattle.sheet.specs.declared.cables.Cable.{Cable}
 use Rattle.sheet.proofs.Lists.{same_test}
 use Rattle.switch.specs.Choice.{leaves, stays, outcome_of, Storable, by_parent, first_open}
-use Rattle.switch.specs.declared.choice.Choice.{Choice}
-use Rattle.switch.specs.declared.choice.Choice.TheVariants.{Leaves, Stays}
+use Rattle.switch.specs.declared.choice.Leave.{Leave}
 
 -- a position is no further than the end
 pub position_within : (p : ℕ) (order : List Cable) → position_of p order ≤ length order
@@ -54,41 +54,33 @@ other_open faults parent c other e = e ∙ rw (ne_eqb c.near.port parent other) 
 pub record From (order : List Cable) (faults : List Socket) (parent current from i : ℕ) : Type 0 where
   pub same : first_open faults parent current (drop from order) ≡ first_open faults parent current (drop i order)
 
-module _ (s places : List ℕ) {faults : List Socket} {parent current from i : ℕ}
-    (walked : From (cables_at s places) faults parent current from i) where
-  abbrev order : List Cable
-  order = cables_at s places
+module _ {order : List Cable} {faults : List Socket} {parent current from i : ℕ} (walked : From order faults parent current from i) where
+  ahead : {c : Cable} → i < length order → c ≡ cable_of i order → drop i order ≡ c ∷ drop (i + 1) order
+  ahead more read = drop-cons order i no_cable more ∙ sym (λ k. read k ∷ drop (add-one i k) order)
 
-  ahead : {c : Cable} → i < length places → c ≡ cable_of i order → drop i order ≡ c ∷ drop (i + 1) order
-  ahead more read =
-      drop-cons order i no_cable (omega (arith, length-map places (placed_cable s)))
-      ∙ sym (λ k. read k ∷ drop (add-one i k) order)
-
-  pub open_next : {c : Cable} → i < length places → c ≡ cable_of i order → is_open faults parent c ≡ false
+  pub open_next : {c : Cable} → i < length order → c ≡ cable_of i order → is_open faults parent c ≡ false
       → From order faults parent current from (i + 1)
   unfolding first_open
   open_next more read shut = record { same = walked.same ∙ ap (first_open faults parent current) (ahead more read) ∙ rw shut }
 
-  pub open_found : {c : Cable} → i < length places → c ≡ cable_of i order → is_open faults parent c ≡ true
+  pub open_found : {c : Cable} → i < length order → c ≡ cable_of i order → is_open faults parent c ≡ true
       → leaves c.near.port c.near.port ≡ first_open faults parent current (drop from order)
   unfolding first_open
   open_found more read free = sym (walked.same ∙ ap (first_open faults parent current) (ahead more read) ∙ rw free)
 
-  pub open_none : length places ≤ i → by_parent parent current ≡ first_open faults parent current (drop from order)
+  pub open_none : length order ≤ i → by_parent parent current ≡ first_open faults parent current (drop from order)
   unfolding first_open
-  open_none over =
-      let past : length order ≤ i = omega (arith, length-map places (placed_cable s)) in
-      sym (walked.same ∙ ap (first_open faults parent current) (drop_of_length-le order {i = i} past))
+  open_none over = sym (walked.same ∙ ap (first_open faults parent current) (drop_of_length-le order {i = i} over))
 
 -- what by-parent answers can be stored where the current port can
-pub by_parent_storable : (choice : Choice) (parent current : ℕ) → outcome_of choice ≡ by_parent parent current → current < 256
+pub by_parent_storable : (choice : Option Leave) (parent current : ℕ) → outcome_of choice ≡ by_parent parent current → current < 256
     → Storable choice
-by_parent_storable Stays parent current e small = tt
-by_parent_storable (Leaves p k) parent current e small = go (eqb parent 0) e
+by_parent_storable None parent current e small = tt
+by_parent_storable (Some leave) parent current e small = go (eqb parent 0) e
   where
-    go : (b : Bool) → leaves p.0 k.0 ≡ pick b stays (leaves parent current) → k.0 < 256
+    go : (b : Bool) → leaves leave.port.0 leave.current.0 ≡ pick b stays (leaves parent current) → leave.current.0 < 256
     go true e' = let z : ◌≡◌ {A = ℕ} 0 1 = cc in absurd (omega arith)
-    go false e' = let same : k.0 ≡ current = cc in omega arith
+    go false e' = let same : leave.current.0 ≡ current = cc in omega arith
 
 -- the halved length decides rule 7 as the doubled number of switches does
 pub halved : (n size : ℕ) → leb n (size / 2) ≡ leb (2 * n) size

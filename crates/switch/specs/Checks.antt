@@ -1,18 +1,23 @@
 -- Refusals 6 to 10, in order; the first rule that is broken gives the number.
-use Rattle.std.specs.Prelude.{ℕ, ◌*◌, List, [], ◌∷◌, Bool, not, length, take, leb, eqb}
+use Rattle.std.specs.Prelude.{ℕ, ◌*◌, List, [], ◌∷◌, Bool, not, length, take, leb, eqb, Result, Ok, Err}
 use Rattle.sheet.specs.Lists.{pick, both, either, any}
 use Rattle.sheet.specs.Cables.{within}
 use Rattle.sheet.specs.Order.{is_cabled, is_live}
+use Rattle.sheet.specs.Refusals.{refusal_number}
 use Rattle.sheet.specs.declared.cables.Cable.{Cable}
+use Rattle.sheet.specs.declared.refusals.Refusal.{Refusal}
 use Rattle.switch.specs.Cell.{cell_of}
 use Rattle.switch.specs.declared.cell.Cell.{Cell}
-use Rattle.switch.specs.declared.checks.Check.{Check}
-use Rattle.switch.specs.declared.checks.Check.TheVariants.{Passed, Refused}
 
--- the refusal number; 0 where the check is passed
-abbrev pub number_of : Check → ℕ
-number_of Passed = 0
-number_of (Refused number) = number
+-- what a check comes to: passed, or refused by its number
+pub data Check : Type 0 where
+  Passed : Check
+  Refused : (number : ℕ) → Check
+
+-- what each case of the code's answer says
+abbrev pub check_of : Result (Unit {0}) Refusal → Check
+check_of (Ok passed) = Passed
+check_of (Err refusal) = Refused (refusal_number refusal)
 
 -- a rule that holds, or its number
 abbrev pub rule : ℕ → Bool → Check

@@ -1,12 +1,11 @@
 -- The published choice of a port: the first live port after the current one in the port order, the parent excepted; otherwise the parent.
-use Rattle.std.specs.Prelude.{ℕ, ◌+◌, ◌<◌, ◌≡◌, List, [], ◌∷◌, ◌++◌, ◌⊎◌, Bool, true, false, not, drop, eqb}
+use Rattle.std.specs.Prelude.{ℕ, ◌+◌, ◌<◌, ◌≡◌, List, [], ◌∷◌, ◌++◌, ◌⊎◌, Bool, true, false, not, drop, eqb, Option, Some, None}
 use Rattle.sheet.specs.Lists.{pick, both, All}
 use Rattle.sheet.specs.Faults.{live}
 use Rattle.sheet.specs.Cables.{Socket}
 use Rattle.sheet.specs.Order.{position_of}
 use Rattle.sheet.specs.declared.cables.Cable.{Cable}
-use Rattle.switch.specs.declared.choice.Choice.{Choice}
-use Rattle.switch.specs.declared.choice.Choice.TheVariants.{Leaves, Stays}
+use Rattle.switch.specs.declared.choice.Leave.{Leave}
 
 -- the cables after the current port in the order; all of them where current is 0
 abbrev pub after_current : ℕ → List Cable → List Cable
@@ -18,14 +17,14 @@ pub data Outcome : Type 0 where
   stays : Outcome
 
 -- what each case of the code's choice says
-abbrev pub outcome_of : Choice → Outcome
-outcome_of (Leaves port current) = leaves port.0 current.0
-outcome_of Stays = stays
+abbrev pub outcome_of : Option Leave → Outcome
+outcome_of (Some leave) = leaves leave.port.0 leave.current.0
+outcome_of None = stays
 
 -- a current port that fits a byte
-abbrev pub Storable : Choice → Type 0
-Storable (Leaves port current) = current.0 < 256
-Storable Stays = Unit {0}
+abbrev pub Storable : Option Leave → Type 0
+Storable (Some leave) = leave.current.0 < 256
+Storable None = Unit {0}
 
 -- step 4: by the parent, and the current port stays; where the parent is 0, nowhere
 abbrev pub by_parent : ℕ → ℕ → Outcome

@@ -1,5 +1,5 @@
 -- One step: the checks, then the published choice.
-use Rattle.std.specs.Prelude.{ℕ, ◌<◌, List, eqb}
+use Rattle.std.specs.Prelude.{ℕ, ◌<◌, List, eqb, Result, Ok, Err}
 use Rattle.sheet.specs.Lists.{pick}
 use Rattle.sheet.specs.Cables.{Socket, socket_of, rows_of}
 use Rattle.sheet.specs.Faults.{faults_of}
@@ -9,15 +9,12 @@ use Rattle.sheet.specs.declared.cables.Cable.{Cable}
 use Rattle.switch.specs.Choice.{Outcome, leaves, stays, choose}
 use Rattle.switch.specs.Cell.{CellInside, cell_of, with_cell, entered, left_by}
 use Rattle.switch.specs.Answers.{Paper, paper, paper_of, move_paper}
-use Rattle.switch.specs.Checks.{checks}
+use Rattle.switch.specs.Checks.{Check, Passed, Refused, checks}
 use Rattle.sheet.specs.declared.order.FarEnd.{FarEnd}
-use Rattle.sheet.specs.declared.check.Checked.{Checked}
-use Rattle.sheet.specs.declared.check.Checked.TheVariants.{Accepted}
+use Rattle.sheet.specs.declared.refusals.Refusal.{Refusal}
 use Rattle.switch.specs.declared.cell.Cell.{Cell}
-use Rattle.switch.specs.declared.step.Answer.{Answer as StepAnswer}
-use Rattle.switch.specs.declared.step.Moved.{Moved}
-use Rattle.switch.specs.declared.checks.Check.{Check}
-use Rattle.switch.specs.declared.checks.Check.TheVariants.{Passed, Refused}
+use Rattle.switch.specs.declared.step.Move.{Move}
+use Rattle.switch.specs.declared.step.Move.TheVariants.{Leaves, Delivered, Nowhere}
 
 -- what a step comes to: the paper's values, the far end of the cable that the packet leaves by, and the tag afterwards
 pub record Stepped : Type 0 where
@@ -45,12 +42,21 @@ moved order tag v cell stays = stopped 2 0 tag
 abbrev pub away_of : FarEnd → Socket
 away_of e = record { switch = e.switch.0; port = e.port.0 }
 
--- an answer in the code and the tag afterwards, as what a step comes to; and the same of a step that has passed the checks
-abbrev pub told : StepAnswer → List ℕ → Stepped
-told r tag = record { paper = paper_of r.out; far = away_of r.far; tag = tag }
+abbrev pub move_far : Move → Socket
+move_far (Leaves p far) = away_of far
+move_far Delivered = nowhere
+move_far Nowhere = nowhere
 
-abbrev pub told_move : Moved → List ℕ → Stepped
-told_move r tag = record { paper = move_paper r.go; far = away_of r.far; tag = tag }
+abbrev pub answer_far : Result Move Refusal → Socket
+answer_far (Ok move) = move_far move
+answer_far (Err refusal) = nowhere
+
+-- an answer in the code and the tag afterwards, as what a step comes to; and the same of a step that has passed the checks
+abbrev pub told : Result Move Refusal → List ℕ → Stepped
+told r tag = record { paper = paper_of r; far = answer_far r; tag = tag }
+
+abbrev pub told_move : Move → List ℕ → Stepped
+told_move r tag = record { paper = move_paper r; far = move_far r; tag = tag }
 
 -- what a step needs that is not checked: the two bytes of its switch are inside the tag, and the arrival port fits a byte
 pub record Ready (tag : List ℕ) (v arrival : ℕ) : Type 0 where
@@ -63,11 +69,6 @@ advanced order faults tag v arrival d =
     let cell = entered (cell_of tag v) arrival in
     pick (eqb v d) (stopped 1 0 tag)
     (moved order tag v cell (choose (faults_of faults) cell.parent.0 cell.current.0 order))
-
--- the refusal number of the lists; 0 where they are accepted
-abbrev pub lists_number : Checked → ℕ
-lists_number (Accepted n cables) = 0
-lists_number (Checked.Refused number) = number
 
 abbrev pub unless : Check → List ℕ → Stepped → Stepped
 unless Passed tag step = step

@@ -2,10 +2,10 @@
 ghost use Rattle.std.specs.Prelude.{◌≡◌};
 ghost use Rattle.switch.specs.Cell.{CellInside, CellFits, cell_of, with_cell, entered, left_by};
 
-use sheet::numbers::{Port, Switch};
+use sheet::numbers::{NO_PORT, Port, Switch};
 
 // The port by which the packet first came in, and the port by which it last left; 0 is no port.
-#[derive(Clone, Copy, Drop)]
+#[derive(Clone, Copy, Debug, PartialEq, Eq)]
 pub struct Cell {
     pub parent: Port,
     pub current: Port,
@@ -19,8 +19,8 @@ impl Cell {
     {
         let first = 2 * (v.0 as usize - 1);
         Cell {
-            parent: Port(tag[first] as u64),
-            current: Port(tag[first + 1] as u64),
+            parent: tag[first].into(),
+            current: tag[first + 1].into(),
         }
     }
 
@@ -38,17 +38,10 @@ impl Cell {
     pub fn entered(self, arrival: Port) -> Cell
         ensures { result ≡ entered self arrival.0 }
     {
-        let kept = self.parent;
-        let current = self.current;
-        if current.0 == 0 {
-            return Cell {
-                parent: arrival,
-                current: current,
-            };
-        }
+        let is_new = self.current == NO_PORT;
         Cell {
-            parent: kept,
-            current: current,
+            parent: if is_new { arrival } else { self.parent },
+            ..self
         }
     }
 
@@ -56,10 +49,9 @@ impl Cell {
     pub fn left_by(self, port: Port) -> Cell
         ensures { result ≡ left_by self port.0 }
     {
-        let parent = self.parent;
         Cell {
-            parent: parent,
             current: port,
+            ..self
         }
     }
 }

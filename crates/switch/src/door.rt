@@ -1,34 +1,35 @@
 // The door for C: the step on bare numbers and byte slices, its answer as one number; the crate `switch_c` exports it.
-ghost use Rattle.std.specs.Prelude.{◌≡◌, ◌≤◌};
+ghost use Rattle.std.specs.Prelude.{◌≡◌};
 ghost use Rattle.switch.specs.Answers.{paper_of, door_number};
 ghost use Rattle.switch.specs.Step.{stepped};
 
-use crate::step::{Out, step};
+use crate::step::{Move, step};
+use sheet::check::Lists;
 use sheet::numbers::{Port, Switch};
+use sheet::refusals::Refusal;
 
 // The weight of an end in the number: a port or a refusal number stays far below it.
 const END: u64 = 4294967296;
 
 // The answer as one number: the end's weight, and the port or the refusal number.
-fn number_of(out: Out) -> u64
-    requires { (paper_of out).number ≤ 10 }
-    ensures { result ≡ door_number (paper_of out) }
+fn number_of(answer: Result<Move, Refusal>) -> u64
+    ensures { result ≡ door_number (paper_of answer) }
 {
-    match out {
-        Out::Forwarded(port) => port.0,
-        Out::Delivered => END,
-        Out::None => 2 * END,
-        Out::Refused(number) => 3 * END + number,
+    match answer {
+        Ok(Move::Leaves(port, _)) => port.0,
+        Ok(Move::Delivered) => END,
+        Ok(Move::Nowhere) => 2 * END,
+        Err(refusal) => 3 * END + refusal.number(),
     }
 }
 
 // One step for a host program in C. All 64-bit numbers are answered: a number past the switches is refused, and is no other switch.
-pub fn switch_step(
+pub fn switch_step<'a>(
     present: u64,
     arrival: u64,
     destination: u64,
-    sheet: &[u8],
-    faults: &[u8],
+    sheet: &'a [u8],
+    faults: &'a [u8],
     tag: &mut [u8],
 ) -> u64
     ensures answer { result ≡ door_number (stepped sheet.now faults.now tag.old
@@ -36,14 +37,12 @@ pub fn switch_step(
     ensures bytes { tag.new
         ≡ (stepped sheet.now faults.now tag.old present arrival destination).tag }
 {
-    let answer = step(
-        sheet,
-        faults,
+    let lists = Lists { sheet, faults };
+    number_of(step(
+        &lists,
         tag,
         Switch(present),
         Port(arrival),
         Switch(destination),
-    );
-    let out = answer.out;
-    number_of(out)
+    ))
 }

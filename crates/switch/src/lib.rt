@@ -5,4 +5,5 @@ pub mod cell;
 pub mod checks;
 mod choice;
 pub mod door;
+pub mod ports;
 pub mod step;

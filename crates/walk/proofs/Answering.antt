@@ -8,14 +8,13 @@ use native.Mathlib.Omega.{arith}
 use lib.ListN.{length, take, drop, replicate, length-append, length-drop, length-replicate}
 use lib.Seq.{take_at, drop_at}
 use lib.Dec.{leb}
+use Rattle.std.specs.Prelude.{Result as Checked, Ok, Err}
 use borrow.Author.Tests.{leb-true}
 use Rattle.sheet.specs.Cables.{switches_of}
-use Rattle.sheet.specs.Refusals.{answer_of, accepted, refused, list_answer}
-use Rattle.sheet.specs.declared.check.Checked.{Checked}
-use Rattle.switch.specs.Checks.{number_of, rule, switches_rule, tag_rule}
-use Rattle.switch.specs.Step.{lists_number}
-use Rattle.switch.specs.declared.checks.Check.{Check}
-use Rattle.switch.specs.declared.checks.Check.TheVariants.{Passed, Refused}
+use Rattle.sheet.specs.Refusals.{answer_of, accepted, list_answer, refusal_number}
+use Rattle.sheet.specs.declared.check.Accepted.{Accepted}
+use Rattle.sheet.specs.declared.refusals.Refusal.{Refusal}
+use Rattle.switch.specs.Checks.{Check, Passed, Refused, check_of, rule, switches_rule, tag_rule}
 use Rattle.walk.specs.Walk.{paper, paper_of, trace_rule, walk_checks, Result, result_of, ended_with}
 use Rattle.walk.specs.Walk.{Walks, turned_away, arrives}
 use Rattle.walk.specs.Condition3.{Reachable, Premises, hops_in, Condition3}
@@ -27,6 +26,10 @@ use Rattle.walk.proofs.Tender.{walk_keeps}
 rule_passed : (number : ℕ) (test : Bool) → rule number test ≡ Passed → test ≡ true
 rule_passed number true e = refl
 rule_passed number false e = absurd (passed≢refused e refl)
+
+-- a check that passes is a rule that does
+so_passed : {done : Unit {0}} {check : Checked (Unit {0}) Refusal} {is : Check} → check_of check ≡ is → check ≡ Ok done → is ≡ Passed
+so_passed says passed = sym says ∙ ap check_of passed
 
 module _ (s faults tag trace : List ℕ) (source destination : ℕ) where
   -- both parts of the promise, for an answer and the two buffers afterwards
@@ -54,101 +57,98 @@ module _ (s faults tag trace : List ℕ) (source destination : ℕ) where
 
   -- ---- the check that refuses
 
-  pub lists_turn_away : (w : Walked) {lists : Checked} {k number : ℕ} → answer_of lists ≡ list_answer s faults → lists ≡ Checked.Refused k
-      → number ≡ lists_number lists → paper_of w ≡ paper 3 0 0 number → Promised w tag trace
-  lists_turn_away w answer e number =
-      refusal w
-      (lists_refuse s faults tag trace source destination (sym answer ∙ ap answer_of e ∙ ap refused (sym (number ∙ ap lists_number e))))
+  pub lists_turn_away : (w : Walked) {lists : Checked Accepted Refusal} {refusal : Refusal} → answer_of lists ≡ list_answer s faults
+      → lists ≡ Err refusal → paper_of w ≡ paper 3 0 0 (refusal_number refusal) → Promised w tag trace
+  lists_turn_away w answer e = refusal w (lists_refuse s faults tag trace source destination (sym answer ∙ ap answer_of e))
 
-  module _ {lists : Checked} {n cables : ℕ} (answer : answer_of lists ≡ list_answer s faults) (accepts : lists ≡ Checked.Accepted n cables)
-    where
-      listed : list_answer s faults ≡ accepted n cables
-      listed = sym answer ∙ ap answer_of accepts
+  module _ {lists : Checked Accepted Refusal} {accepts : Accepted} (answer : answer_of lists ≡ list_answer s faults)
+      (accepted_so : lists ≡ Ok accepts) where
+    listed : list_answer s faults ≡ accepted accepts.switches accepts.cables
+    listed = sym answer ∙ ap answer_of accepted_so
 
-      pub few : n ≤ 64
-      few = (lists_few s faults listed).0
+    pub few : accepts.switches ≤ 64
+    few = (lists_few s faults listed).0
 
-      module _ {a : Check} (first : a ≡ switches_rule n source destination) where
-        pub switches_turn_away : (w : Walked) {k number : ℕ} → a ≡ Refused k → number ≡ number_of a → paper_of w ≡ paper 3 0 0 number
+    module _ {a : Checked (Unit {0}) Refusal} (first : check_of a ≡ switches_rule accepts.switches source destination) where
+      pub switches_turn_away : (w : Walked) {refusal : Refusal} → a ≡ Err refusal → paper_of w ≡ paper 3 0 0 (refusal_number refusal)
+          → Promised w tag trace
+      unfolding walk_checks
+      switches_turn_away w e = refusal w (rw (listed, sym first ∙ ap check_of e))
+
+      module _ {done : Unit {0}} (passed : a ≡ Ok done) {b : Checked (Unit {0}) Refusal}
+          (second : check_of b ≡ tag_rule accepts.switches tag) where
+        pub tag_turn_away : (w : Walked) {refusal : Refusal} → b ≡ Err refusal → paper_of w ≡ paper 3 0 0 (refusal_number refusal)
             → Promised w tag trace
         unfolding walk_checks
-        switches_turn_away w e number = refusal w (rw (listed, sym first ∙ e) (ap Refused (sym (number ∙ ap number_of e))))
+        tag_turn_away w e = refusal w (rw (listed, so_passed first passed, sym second ∙ ap check_of e))
 
-        module _ (passed : a ≡ Passed) {b : Check} (second : b ≡ tag_rule n tag) where
-          pub tag_turn_away : (w : Walked) {k number : ℕ} → b ≡ Refused k → number ≡ number_of b → paper_of w ≡ paper 3 0 0 number
-              → Promised w tag trace
-          unfolding walk_checks
-          tag_turn_away w e number =
-              refusal w (rw (listed, sym first ∙ passed, sym second ∙ e) (ap Refused (sym (number ∙ ap number_of e))))
+        module _ {done' : Unit {0}} (passed' : b ≡ Ok done') where
+          pub tag_fits : 2 * accepts.switches ≤ length tag
+          tag_fits = leb-true (2 * accepts.switches) (length tag) (rule_passed 7 (leb (2 * accepts.switches) (length tag)) (so_passed second passed'))
 
-          module _ (passed' : b ≡ Passed) where
-            pub tag_fits : 2 * n ≤ length tag
-            tag_fits = leb-true (2 * n) (length tag) (rule_passed 7 (leb (2 * n) (length tag)) (sym second ∙ passed'))
+          module _ {c : Checked (Unit {0}) Refusal} (third : check_of c ≡ trace_rule accepts.cables trace) where
+            pub trace_turn_away : (w : Walked) {refusal : Refusal} → c ≡ Err refusal → paper_of w ≡ paper 3 0 0 (refusal_number refusal)
+                → Promised w tag trace
+            unfolding walk_checks
+            trace_turn_away w e = refusal w (rw (listed, so_passed first passed, so_passed second passed', sym third ∙ ap check_of e))
 
-            module _ {c : Check} (third : c ≡ trace_rule cables trace) where
-              pub trace_turn_away : (w : Walked) {k number : ℕ} → c ≡ Refused k → number ≡ number_of c → paper_of w ≡ paper 3 0 0 number
-                  → Promised w tag trace
+            -- ---- all have passed
+
+            module _ {done'' : Unit {0}} (passed'' : c ≡ Ok done'') {cleared : List ℕ}
+                (clear : cleared ≡ replicate (2 * accepts.switches) 0 ++ drop (2 * accepts.switches) tag) where
+              all_passed : walk_checks s faults tag trace source destination ≡ Passed
               unfolding walk_checks
-              trace_turn_away w e number =
-                  refusal w
-                  (rw (listed, sym first ∙ passed, sym second ∙ passed', sym third ∙ e) (ap Refused (sym (number ∙ ap number_of e))))
+              all_passed = rw (listed, so_passed first passed, so_passed second passed', so_passed third passed'')
 
-              -- ---- all have passed
+              premises : Premises s faults tag trace source destination
+              premises = passed_premises s faults tag trace source destination all_passed
 
-              module _ (passed'' : c ≡ Passed) {cleared : List ℕ} (clear : cleared ≡ replicate (2 * n) 0 ++ drop (2 * n) tag) where
-                all_passed : walk_checks s faults tag trace source destination ≡ Passed
-                unfolding walk_checks
-                all_passed = rw (listed, sym first ∙ passed, sym second ∙ passed', sym third ∙ passed'')
+              zeros : length {A = ℕ} (replicate (2 * switches_of s) 0) ≡ 2 * switches_of s
+              zeros = length-replicate (2 * switches_of s) 0
 
-                premises : Premises s faults tag trace source destination
-                premises = passed_premises s faults tag trace source destination all_passed
+              cleared_is : cleared ≡ replicate (2 * switches_of s) 0 ++ drop (2 * switches_of s) tag
+              cleared_is = clear ∙ ap (λ k. replicate (2 * k) 0 ++ drop (2 * k) tag) (lists_switches s faults listed)
 
-                zeros : length {A = ℕ} (replicate (2 * switches_of s) 0) ≡ 2 * switches_of s
-                zeros = length-replicate (2 * switches_of s) 0
+              cleared_length : length cleared ≡ length tag
+              cleared_length = ap length clear ∙ simp (length-append, length-drop, length-replicate) (omega (arith, tag_fits))
 
-                cleared_is : cleared ≡ replicate (2 * switches_of s) 0 ++ drop (2 * switches_of s) tag
-                cleared_is = clear ∙ ap (λ k. replicate (2 * k) 0 ++ drop (2 * k) tag) (lists_switches s faults listed)
+              pub ready_to_carry : Premises s faults cleared trace source destination
+                  × (take (2 * switches_of s) cleared ≡ replicate (2 * switches_of s) 0)
+              ready_to_carry = (
+                record {
+                  n = premises.n;
+                  cables = premises.cables;
+                  lists = premises.lists;
+                  source_on = premises.source_on;
+                  destination_on = premises.destination_on;
+                  tag_room = omega (arith, premises.tag_room, cleared_length);
+                  trace_room = premises.trace_room;
+                },
+                ap (take (2 * switches_of s)) cleared_is
+                    ∙ take_at (replicate (2 * switches_of s) 0) (drop (2 * switches_of s) tag) (2 * switches_of s) zeros,
+              )
 
-                cleared_length : length cleared ≡ length tag
-                cleared_length = ap length clear ∙ simp (length-append, length-drop, length-replicate) (omega (arith, tag_fits))
+              walks_cleared : {r : Result} → Walks s faults cleared trace source destination r
+                  → Walks s faults tag trace source destination r
+              walks_cleared (turned_away e) =
+                  absurd (passed≢refused (premises_pass s faults cleared trace source destination ready_to_carry.0) e)
+              walks_cleared (arrives {k} e way end) =
+                  subst (Walks s faults tag trace source destination) same (arrives all_passed way end)
+                where
+                  beyond : drop (2 * switches_of s) tag ≡ drop (2 * switches_of s) cleared
+                  beyond =
+                      sym (ap (drop (2 * switches_of s)) cleared_is
+                      ∙ drop_at (replicate (2 * switches_of s) 0) (drop (2 * switches_of s) tag) (2 * switches_of s) zeros)
 
-                pub ready_to_carry : Premises s faults cleared trace source destination
-                    × (take (2 * switches_of s) cleared ≡ replicate (2 * switches_of s) 0)
-                ready_to_carry = (
-                  record {
-                    n = premises.n;
-                    cables = premises.cables;
-                    lists = premises.lists;
-                    source_on = premises.source_on;
-                    destination_on = premises.destination_on;
-                    tag_room = omega (arith, premises.tag_room, cleared_length);
-                    trace_room = premises.trace_room;
-                  },
-                  ap (take (2 * switches_of s)) cleared_is
-                      ∙ take_at (replicate (2 * switches_of s) 0) (drop (2 * switches_of s) tag) (2 * switches_of s) zeros,
-                )
+                  same : ended_with s faults tag trace destination k ≡ ended_with s faults cleared trace destination k
+                  same =
+                      (λ i. record {
+                        paper = (ended_with s faults tag trace destination k).paper;
+                        tag = k.tag ++ beyond i;
+                        trace = (ended_with s faults tag trace destination k).trace;
+                      })
 
-                walks_cleared : {r : Result} → Walks s faults cleared trace source destination r
-                    → Walks s faults tag trace source destination r
-                walks_cleared (turned_away e) =
-                    absurd (passed≢refused (premises_pass s faults cleared trace source destination ready_to_carry.0) e)
-                walks_cleared (arrives {k} e way end) =
-                    subst (Walks s faults tag trace source destination) same (arrives all_passed way end)
-                  where
-                    beyond : drop (2 * switches_of s) tag ≡ drop (2 * switches_of s) cleared
-                    beyond =
-                        sym (ap (drop (2 * switches_of s)) cleared_is
-                        ∙ drop_at (replicate (2 * switches_of s) 0) (drop (2 * switches_of s) tag) (2 * switches_of s) zeros)
-
-                    same : ended_with s faults tag trace destination k ≡ ended_with s faults cleared trace destination k
-                    same =
-                        (λ i. record {
-                          paper = (ended_with s faults tag trace destination k).paper;
-                          tag = k.tag ++ beyond i;
-                          trace = (ended_with s faults tag trace destination k).trace;
-                        })
-
-                pub carried_through : (w : Walked) {tag' trace' : List ℕ}
-                    → Walks s faults cleared trace source destination (result_of w tag' trace')
-                    → Promised w tag' trace'
-                carried_through w walks = promised w (walks_cleared walks)
+              pub carried_through : (w : Walked) {tag' trace' : List ℕ}
+                  → Walks s faults cleared trace source destination (result_of w tag' trace')
+                  → Promised w tag' trace'
+              carried_through w walks = promised w (walks_cleared walks)

@@ -13,7 +13,7 @@ use Rattle.sheet.specs.Cabling.{order_at}
 use Rattle.sheet.specs.Sound.{Within, Sound}
 use Rattle.switch.specs.Answers.{move_paper}
 use Rattle.switch.specs.Step.{Ready, told_move, advanced}
-use Rattle.switch.specs.declared.step.Moved.{Moved}
+use Rattle.sheet.specs.declared.order.FarEnd.{FarEnd}
 use Rattle.sheet.specs.declared.numbers.Port.{Port}
 use Rattle.switch.specs.declared.step.Move.{Move}
 use Rattle.switch.proofs.Advancing.{followed_by, longer_tag, advanced_keeps}
@@ -144,29 +144,29 @@ module _ {s faults tag₀ trace₀ : List ℕ} {source destination : ℕ} where
 
       -- ---- after the step
 
-      module _ (r : Moved) {tag' : List ℕ} (told : told_move r tag' ≡ advanced (order_at s at) faults tag at arrival destination) where
+      module _ (go : Move) {tag' : List ℕ} (told : told_move go tag' ≡ advanced (order_at s at) faults tag at arrival destination) where
         abbrev beyond : List ℕ
         beyond = drop (2 * switches_of s) tag₀
 
-        step_is : told_move r tag' ≡ followed_by beyond (step_of s faults destination k)
+        step_is : told_move go tag' ≡ followed_by beyond (step_of s faults destination k)
         step_is =
             told
             ∙ (λ i. advanced (order_at s (c.here i)) faults (c.tag_is i) (c.here i) (c.came i) destination)
             ∙ longer_tag (order_at s k.at) faults k.tag k.at k.arrival destination beyond so.on.0
             (omega (arith, so.on.1, so.long))
 
-        paper_is : {go : Move} → r.go ≡ go → move_paper go ≡ (step_of s faults destination k).paper
-        paper_is goes = sym (ap move_paper goes) ∙ ap (λ x. x.paper) step_is
+        paper_is : move_paper go ≡ (step_of s faults destination k).paper
+        paper_is = ap (λ x. x.paper) step_is
 
         -- any step that does not forward ends the walk
-        pub walk_ends : {go : Move} → r.go ≡ go → ((move_paper go).end ≡ 0 → ⊥) → (w : Walked)
+        pub walk_ends : ((move_paper go).end ≡ 0 → ⊥) → (w : Walked)
             → paper_of w ≡ paper (move_paper go).end at hops 0 → Walks s faults tag₀ trace₀ source destination (result_of w tag' trace)
-        walk_ends {go} goes over w answer =
+        walk_ends over w answer =
             subst (Walks s faults tag₀ trace₀ source destination) same
             (arrives (premises_pass s faults tag₀ trace₀ source destination c.premises) c.way end)
           where
             end : (step_of s faults destination k).paper.end ≡ 0 → ⊥
-            end z = over (ap (λ x. x.end) (paper_is goes) ∙ z)
+            end z = over (ap (λ x. x.end) paper_is ∙ z)
 
             tag_same : tag' ≡ k.tag ++ beyond
             tag_same =
@@ -177,57 +177,58 @@ module _ {s faults tag₀ trace₀ : List ℕ} {source destination : ℕ} where
             trace_same = c.trace_is ∙ ap (λ n. trace_bytes k.trace ++ drop (2 * n) trace₀) c.count
 
             paper_same : paper_of w ≡ (ended_with s faults tag₀ trace₀ destination k).paper
-            paper_same = answer ∙ (λ i. paper (paper_is goes i).end (c.here i) (c.count i) 0)
+            paper_same = answer ∙ (λ i. paper (paper_is i).end (c.here i) (c.count i) 0)
 
             same : ended_with s faults tag₀ trace₀ destination k ≡ result_of w tag' trace
             same = sym (λ i. record { paper = paper_same i; tag = tag_same i; trace = trace_same i })
 
-        module _ {port : Port} (goes : r.go ≡ Move.Leaves port) where
-          forwarded : (step_of s faults destination k).paper.end ≡ 0
-          forwarded = sym (ap (λ x. x.end) (paper_is goes))
+      module _ (port : Port) (far : FarEnd) {tag' : List ℕ}
+          (told : told_move (Move.Leaves port far) tag' ≡ advanced (order_at s at) faults tag at arrival destination) where
+        forwarded : (step_of s faults destination k).paper.end ≡ 0
+        forwarded = sym (ap (λ x. x.end) (paper_is (Move.Leaves port far) told))
 
-          next : Way s faults destination source (carried s faults destination k)
-          next = Way.hop c.way forwarded
+        next : Way s faults destination source (carried s faults destination k)
+        next = Way.hop c.way forwarded
 
-          port_is : port.0 ≡ (step_of s faults destination k).paper.port
-          port_is = ap (λ x. x.port) (paper_is goes)
+        port_is : port.0 ≡ (step_of s faults destination k).paper.port
+        port_is = ap (λ x. x.port) (paper_is (Move.Leaves port far) told)
 
-          -- one hop more is still no more than twice the cables
-          hops_left : hops + 1 ≤ 2 * length (rows_of s)
-          hops_left = omega (arith, c.count, simp length-append at (hops_few next))
+        -- one hop more is still no more than twice the cables
+        hops_left : hops + 1 ≤ 2 * length (rows_of s)
+        hops_left = omega (arith, c.count, simp length-append at (hops_few next))
 
-          pub hop_room : HopRoom s trace port.0 hops
-          hop_room =
-              record {
-                port_small = omega (arith, port_is, (port_on s faults destination source sound k so forwarded).1);
-                hops_left = hops_left;
-                hops_small = omega (arith, few.1, hops_left);
-                bytes_left = omega (arith, trace_size, trace_room, hops_left);
-              }
+        pub hop_room : HopRoom s trace port.0 hops
+        hop_room =
+            record {
+              port_small = omega (arith, port_is, (port_on s faults destination source sound k so forwarded).1);
+              hops_left = hops_left;
+              hops_small = omega (arith, few.1, hops_left);
+              bytes_left = omega (arith, trace_size, trace_room, hops_left);
+            }
 
-          pub carrying_on :
-              Carrying s faults tag₀ trace₀ source destination tag' (set (set trace (2 * hops) at) (2 * hops + 1) port.0)
-              r.far.switch.0 r.far.port.0 (hops + 1)
-          carrying_on =
-              record {
-                premises = c.premises;
-                packet = carried s faults destination k;
-                way = next;
-                here = ap (λ x. x.far.switch) step_is;
-                came = ap (λ x. x.far.port) step_is;
-                count = ap (λ n. n + 1) c.count ∙ sym (length-append k.trace (_ ∷ []));
-                tag_is = ap (λ x. x.tag) step_is;
-                trace_is = trace_is;
-              }
-            where
-              trace_is : set (set trace (2 * hops) at) (2 * hops + 1) port.0
-                  ≡ trace_bytes (carried s faults destination k).trace ++ drop (2 * (hops + 1)) trace₀
-              trace_is =
-                  let twice : 2 * hops + 2 ≡ 2 * (hops + 1) = omega arith in
-                  let written : length (trace_bytes k.trace) ≡ 2 * hops = omega (arith, trace_length k.trace, c.count) in
-                  let fits : 2 * hops + 2 ≤ length trace₀ = omega (arith, hop_room.bytes_left, trace_size) in
-                  ap (λ l. set (set l (2 * hops) at) (2 * hops + 1) port.0) c.trace_is
-                  ∙ two_written (trace_bytes k.trace) trace₀ (2 * hops) at port.0 written fits
-                  ∙ (λ i. (trace_bytes k.trace ++ (c.here i ∷ port_is i ∷ [])) ++ drop (twice i) trace₀)
-                  ∙ ap (λ l. l ++ drop (2 * (hops + 1)) trace₀)
-                  (sym (trace_more k.trace (record { switch = k.at; port = (step_of s faults destination k).paper.port })))
+        pub carrying_on :
+            Carrying s faults tag₀ trace₀ source destination tag' (set (set trace (2 * hops) at) (2 * hops + 1) port.0)
+            far.switch.0 far.port.0 (hops + 1)
+        carrying_on =
+            record {
+              premises = c.premises;
+              packet = carried s faults destination k;
+              way = next;
+              here = ap (λ x. x.far.switch) (step_is (Move.Leaves port far) told);
+              came = ap (λ x. x.far.port) (step_is (Move.Leaves port far) told);
+              count = ap (λ n. n + 1) c.count ∙ sym (length-append k.trace (_ ∷ []));
+              tag_is = ap (λ x. x.tag) (step_is (Move.Leaves port far) told);
+              trace_is = trace_is;
+            }
+          where
+            trace_is : set (set trace (2 * hops) at) (2 * hops + 1) port.0
+                ≡ trace_bytes (carried s faults destination k).trace ++ drop (2 * (hops + 1)) trace₀
+            trace_is =
+                let twice : 2 * hops + 2 ≡ 2 * (hops + 1) = omega arith in
+                let written : length (trace_bytes k.trace) ≡ 2 * hops = omega (arith, trace_length k.trace, c.count) in
+                let fits : 2 * hops + 2 ≤ length trace₀ = omega (arith, hop_room.bytes_left, trace_size) in
+                ap (λ l. set (set l (2 * hops) at) (2 * hops + 1) port.0) c.trace_is
+                ∙ two_written (trace_bytes k.trace) trace₀ (2 * hops) at port.0 written fits
+                ∙ (λ i. (trace_bytes k.trace ++ (c.here i ∷ port_is i ∷ [])) ++ drop (twice i) trace₀)
+                ∙ ap (λ l. l ++ drop (2 * (hops + 1)) trace₀)
+                (sym (trace_more k.trace (record { switch = k.at; port = (step_of s faults destination k).paper.port })))

@@ -18,8 +18,8 @@ use Rattle.sheet.proofs.Accepted.{accepted_of}
 use Rattle.sheet.proofs.Sheet.{rows_of_lem}
 use Rattle.sheet.proofs.Exactly.{both_accepted}
 use Rattle.switch.specs.Checks.{rule, first_broken}
-use Rattle.switch.specs.declared.checks.Check.{Check}
-use Rattle.switch.specs.declared.checks.Check.TheVariants.{Passed, Refused}
+use Rattle.switch.specs.Checks.{Check}
+use Rattle.switch.specs.Checks.{Passed, Refused}
 use Rattle.walk.specs.Walk.{checks_on, walk_checks}
 use Rattle.walk.specs.Condition3.{Premises}
 

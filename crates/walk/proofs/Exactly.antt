@@ -16,7 +16,7 @@ use Rattle.sheet.specs.Exactly.{EitherRefused, of_sheet, of_list, by_form, by_co
 use Rattle.sheet.proofs.Tests.{true≢false, fails}
 use Rattle.sheet.proofs.Exactly.{either_refused, both_accepted}
 use Rattle.switch.specs.Checks.{rule, first_broken}
-use Rattle.switch.specs.declared.checks.Check.TheVariants.{Refused}
+use Rattle.switch.specs.Checks.{Refused}
 use Rattle.walk.specs.Walk.{paper, checks_on, walk_checks, Result, Walks, turned_away, arrives}
 use Rattle.walk.specs.Exactly.{WalkRefused, by_lists, off_sheet, no_room}
 use Rattle.walk.proofs.Checking.{passed≢refused, on_sheet_lem, passed_premises, lists_refuse, off_refuse}

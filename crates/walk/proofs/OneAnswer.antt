@@ -11,6 +11,7 @@ use Rattle.walk.specs.Walk.{Packet, step_of, carried, sent, Way, Paper, ended, p
 use Rattle.walk.specs.Walk.{Walks, turned_away, arrives}
 use Rattle.walk.specs.declared.walk.End.{End}
 use Rattle.walk.specs.declared.walk.End.TheVariants.{Delivered, None}
+use Rattle.sheet.proofs.OneAnswer.{one_refusal}
 use Rattle.walk.specs.declared.walk.Walked.{Walked}
 use Rattle.walk.proofs.Checking.{passed≢refused}
 
@@ -63,7 +64,7 @@ module _ {s faults tag trace : List ℕ} {source destination : ℕ} where
 parts : (a : End) {switch hops : ℕ} → ((ended a switch hops).switch ≡ switch) × ((ended a switch hops).hops ≡ hops)
 parts Delivered = (refl, refl)
 parts None = (refl, refl)
-parts (End.Refused number) = (refl, refl)
+parts (End.Refused refusal) = (refl, refl)
 
 pub paper_hops : (w : Walked) → (paper_of w).hops ≡ w.hops
 paper_hops w = (parts w.end).1
@@ -82,13 +83,13 @@ paper_one w w' e =
     same_end : (a b : End) → ended a w.switch.0 w.hops ≡ ended b w'.switch.0 w'.hops → a ≡ b
     same_end Delivered Delivered e = refl
     same_end None None e = refl
-    same_end (End.Refused number) (End.Refused number') e = ap End.Refused (ap (λ p. p.number) e)
+    same_end (End.Refused refusal) (End.Refused refusal') e = ap End.Refused (one_refusal refusal refusal' (ap (λ p. p.number) e))
     same_end Delivered None e = absurd (apart e (λ z. omega arith))
-    same_end Delivered (End.Refused number) e = absurd (apart e (λ z. omega arith))
+    same_end Delivered (End.Refused refusal) e = absurd (apart e (λ z. omega arith))
     same_end None Delivered e = absurd (apart e (λ z. omega arith))
-    same_end None (End.Refused number) e = absurd (apart e (λ z. omega arith))
-    same_end (End.Refused number) Delivered e = absurd (apart e (λ z. omega arith))
-    same_end (End.Refused number) None e = absurd (apart e (λ z. omega arith))
+    same_end None (End.Refused refusal) e = absurd (apart e (λ z. omega arith))
+    same_end (End.Refused refusal) Delivered e = absurd (apart e (λ z. omega arith))
+    same_end (End.Refused refusal) None e = absurd (apart e (λ z. omega arith))
 
 -- what the promise of `walk` says of an answer and of both buffers afterwards
 abbrev pub Told : List ℕ → List ℕ → List ℕ → List ℕ → ℕ → ℕ → Walked → List ℕ → List ℕ → Type 0

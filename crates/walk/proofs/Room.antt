@@ -9,7 +9,7 @@ use lib.Seq.{take_at, drop_at, drop-append-le}
 use Rattle.sheet.specs.Cables.{rows_of, switches_of}
 use Rattle.sheet.specs.Refusals.{accepted, list_answer}
 use Rattle.sheet.specs.Sound.{Within, Sound}
-use Rattle.switch.specs.declared.checks.Check.TheVariants.{Passed}
+use Rattle.switch.specs.Checks.{Passed}
 use Rattle.walk.specs.Network.{Dart}
 use Rattle.walk.specs.Walk.{Packet, Way, walk_checks, trace_bytes, Result, ended_with, Walks, turned_away, arrives}
 use Rattle.walk.specs.Condition3.{Premises}

@@ -1,9 +1,10 @@
--- The buffer is full so far.
-use Rattle.std.proofs.Common.{◌≡◌, ◌≤◌, ◌-◌, length}
+-- The buffer is full so far, with what was read.
+use Rattle.std.proofs.Common.{◌-◌, ◌≤◌, length, take}
+use Rattle.std.specs.Io.KnownBytes.{Consumes}
 use Rattle.desk.proofs.fill.Given as goal
 
-abbrev pub invariant-loop-n : goal.invariant-loop-n
-invariant-loop-n l = (l.n ≤ length l.buffer) × (length l.buffer ≡ length l.initial.buffer)
+abbrev pub invariant-loop-size : goal.invariant-loop-size
+invariant-loop-size g l = (l.size ≤ length l.buffer) × Consumes (g.R.Read.remaining l.initial.file) (g.R.Read.remaining l.file) (take l.size l.buffer)
 
-abbrev pub decreases-loop-n : goal.decreases-loop-n
-decreases-loop-n l = length l.buffer - l.n
+abbrev pub decreases-loop-size : goal.decreases-loop-size
+decreases-loop-size g l = length l.buffer - l.size

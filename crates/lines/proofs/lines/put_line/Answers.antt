@@ -1,12 +1,11 @@
--- The parts of the line one after another.
-use Rattle.lines.specs.Lines.{line_of}
-use Rattle.lines.proofs.Texts.{puts_then}
+-- The pairs of bytes are the line's hops, and a line with so few of them is short.
+use Rattle.std.proofs.Common.{refl, arith}
+use Rattle.lines.proofs.Hops.{line_put}
 use Rattle.lines.proofs.lines.put_line.Goals as goal
 
-pub returns-clause-puts : goal.returns-clause-puts
-unfolding line_of
-returns-clause-puts c =
-    let destination = puts_then c.put_byte-after_blank.ensures c.put_number-after_destination.ensures.puts in
-    let asked = puts_then c.put_number-after_source.ensures.puts destination in
-    let told = puts_then c.put_byte-before_end.ensures c.put_end-after_end.ensures.puts in
-    puts_then (puts_then asked told) c.put_byte.ensures
+pub returns : goal.returns
+returns c =
+    let put =
+    line_put c.args.source.0 c.args.destination.0 c.args.walked c.args.trace.now c.requires.1 (omega arith) (omega arith)
+    c.requires.0 (λ i. (c.type_inv.trace i).fits) refl c.as_chunks.ensures.front c.put_answer.ensures in
+    record { line = grind (arith, put.0.same_buffer, put.0.line_is); size = put.0.size_is; upper_bound = put.1 }

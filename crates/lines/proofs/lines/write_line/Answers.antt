@@ -6,4 +6,4 @@ pub put_line-requires : goal.put_line-requires
 put_line-requires c = walk_fits c.walk-walked.result c.walk-walked.ensures.walks
 
 pub returns-clause-written : goal.returns-clause-written
-returns-clause-written c = line_written c.walk-walked.result c.walk-walked.ensures.walks c.put_line.ensures.puts
+returns-clause-written c = line_written c.walk-walked.result c.walk-walked.ensures.walks c.put_line.ensures.line c.put_line.ensures.size

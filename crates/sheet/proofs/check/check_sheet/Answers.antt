@@ -1,18 +1,19 @@
 -- The sheet's reading as an answer.
-use Rattle.std.proofs.Common.{subst, sym, ap, ◌∙◌, []}
-use Rattle.sheet.specs.Cables.{sheet_reading}
-use Rattle.sheet.specs.Refusals.{answer_of, sheet_answer_of, sheet_answer}
-use Rattle.sheet.specs.Told.{checked_of}
-use Rattle.sheet.specs.Used.{Marks}
-use Rattle.sheet.proofs.Marking.{marks_none}
-use Rattle.sheet.proofs.Telling.{sheet_checked}
+use Rattle.std.proofs.Common.{sym, ap, ◌∙◌}
+use mathlib.Core.Path.{ap₂}
+use Rattle.std.proofs.lemmas.Result.{err_from_is_err_and}
+use Rattle.sheet.specs.Refusals.{sheet_answer, accepted, refused, refusal_number}
 use Rattle.sheet.proofs.check.check_sheet.Goals as goal
 
-pub read_sheet-told-requires : goal.read_sheet-told-requires
-read_sheet-told-requires c = subst (λ table. Marks table []) (sym c.no_port_used-used.ensures) marks_none
+pub returns-in_err-read_sheet : goal.returns-in_err-read_sheet
+unfolding sheet_answer
+returns-in_err-read_sheet c =
+    let told = rw c.new-rows.ensures.0 at c.in_err-read_sheet.ensures.told in
+    let p = err_from_is_err_and c.from_residual.result c.from_residual.ensures.1 in
+    rw (← told, p.1) (ap (λ r. refused (refusal_number r)) p.2)
 
 pub returns : goal.returns
 unfolding sheet_answer
-returns c = let s = c.args.sheet.now in
-    ap answer_of c.answer_of.ensures ∙ ap (λ told. answer_of (checked_of c.byte_at.result told)) c.read_sheet-told.ensures.value
-    ∙ sheet_checked c.byte_at.result (sheet_reading s) ∙ ap (λ n. sheet_answer_of n (sheet_reading s)) c.byte_at.ensures
+returns c =
+    let told = rw c.new-rows.ensures.0 at c.in_ok-read_sheet.ensures.told in
+    rw (← told) (ap₂ accepted (c.from.ensures ∙ c.byte_at.ensures) (sym c.in_ok-read_sheet.ensures.counted))

@@ -4,5 +4,4 @@ use Rattle.sheet.proofs.used.use_port.Goals as goal
 
 pub returns-clause-by_index : goal.returns-clause-by_index
 returns-clause-by_index c = let a = c.args in
-    let h = c.requires in
-    mark_port a.used.now a.v.0 a.p.0 h.0 h.1 h.2
+    mark_port a.used.now a.end.switch a.end.port c.requires.0 c.requires.1.0 c.requires.1.1

@@ -6,7 +6,7 @@ use Rattle.walk.proofs.walk.carry.Given as goal
 
 abbrev pub invariant-loop-port : goal.invariant-loop-port
 invariant-loop-port l =
-    Carrying l.sheet l.faults l.initial.tag l.initial.trace l.initial.at.0 l.destination.0 l.tag l.trace l.at.0 l.arrival.0 l.hops
+    Carrying l.lists.sheet.now l.lists.faults.now l.initial.tag l.initial.trace l.initial.at.0 l.destination.0 l.tag l.trace l.at.0 l.arrival.0 l.hops
 
 abbrev pub decreases-loop-port : goal.decreases-loop-port
-decreases-loop-port l = 2 * length (rows_of l.sheet) - l.hops
+decreases-loop-port l = 2 * length (rows_of l.lists.sheet.now) - l.hops

@@ -1,5 +1,0 @@
--- A tenth of the number is less.
-use Rattle.lines.proofs.text.+put_number.Given as goal
-
-abbrev pub decreases-put_number : goal.decreases-put_number
-decreases-put_number l = l.number
