@@ -16,8 +16,9 @@ use std::fs::File;
 use std::io::Read;
 use std::{fs, io};
 
-// Reads until the buffer is full or the file ends, and answers what was read. What cannot be read, as a directory, fails. A loop of its own,
-// going by what each read gives: std's `read_exact` does not say how much came before the end, and `io::copy` reads through a second buffer.
+// Reads until the buffer is full or the file ends, and answers what was read. What cannot be read, as a directory, fails. A loop of its
+// own, going by what each read gives: std's `read_exact` does not say how much came before the end, and `io::copy` reads through a second
+// buffer.
 fn fill<'a, R: Read>(file: &mut R, buffer: &'a mut [u8]) -> io::Result<&'a [u8]>
     ensures upper_bound { IfOk result (λ bytes. length bytes.now ≤ length buffer.old) }
     ensures read { IfOk result (λ bytes. Consumes (R.remaining file.old) (R.remaining file.new) bytes.now) }
@@ -34,7 +35,8 @@ fn fill<'a, R: Read>(file: &mut R, buffer: &'a mut [u8]) -> io::Result<&'a [u8]>
 }
 
 // The file that an argument names, opened; none where there is no such argument, it is no text, or it cannot be opened. It takes the system
-// and not the bound `Env`: through that a program stands on the kit's word for four C functions more, `getcwd` and `chdir` among them.
+// and not the bound `Env`: through that a program stands on the kit's word for four C functions more, `getcwd` and `chdir` among them. The
+// name is a buffer with a length beside it, since that is how the system hands an argument out.
 fn open(rt: &HostRuntime, index: usize) -> Option<File> {
     let mut name = [0u8; 4096];
     let length = rt.arg(index, &mut name).ok()?;

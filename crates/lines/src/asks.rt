@@ -5,8 +5,8 @@ ghost use Rattle.lines.specs.Asks.{ask_at};
 use sheet::numbers::Switch;
 use sheet::records::{ASK, Found, byte_at, record_at};
 
-// What stands at a position of the asks. It stays an enum: in a Result of an Option the end would be an Ok with nothing in it, which is
-// no plainer.
+// What stands at a position of the asks. It stays an enum, as its three cases are three things for the program to do: a Result of an Option
+// would lie in the Result of a read there.
 #[derive(Clone, Copy, Debug, PartialEq, Eq)]
 pub enum Ask {
     // Source and destination; the next ask begins here.

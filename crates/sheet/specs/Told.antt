@@ -1,4 +1,4 @@
--- What the reading functions tell of a list of records: how many there are, or the first wrong one.
+-- What the reading functions tell: where the next record begins, how many records a list has, or the first wrong one.
 use Rattle.std.specs.Prelude.{ℕ, length, ◌-◌, List, Option, Some, None, Result, Ok, Err}
 use Rattle.sheet.specs.Records.{Reading, right, wrong}
 use Rattle.sheet.specs.declared.listing.Wrong.{Wrong}
@@ -13,11 +13,12 @@ next_of form s at WrongKind = Err (record { rule = form; start = at; size = 1 })
 next_of form s at CutShort = Err (record { rule = form; start = at; size = length s - at })
 next_of form s at Ended = Ok None
 
+-- how many records there are, all right, or the first wrong one
 abbrev pub told_of : {A : Type 0} → Reading A → Result ℕ Wrong
 told_of (right records) = Ok (length records)
 told_of (wrong rule start size) = Err (record { rule = rule; start = start; size = size })
 
--- and with the records of a list that is all right
+-- the reading that an answer comes to, where these records were read with it
 abbrev pub reading_of : {A T : Type 0} → (T → List A) → Result T Wrong → Reading A
 reading_of records (Ok read) = right (records read)
 reading_of records (Err first) = wrong first.rule first.start first.size

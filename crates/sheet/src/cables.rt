@@ -20,6 +20,7 @@ pub struct Cable {
     pub far: End,
 }
 
+// A switch and a port go side by side through three private functions: a struct for them would be made at each call, of two bytes.
 impl End {
     pub(crate) fn is_at(self, v: Switch, p: Port) -> bool
         ensures { result ≡ is_at v.0 p.0 self }

@@ -1,5 +1,6 @@
 // Check of a sheet, and of a fault list against a sheet; and the row that is wrong.
 ghost use Rattle.std.specs.Prelude.{◌≡◌};
+ghost use Rattle.sheet.specs.Cables.{switches_of};
 ghost use Rattle.sheet.specs.Refusals.{answer_of, sheet_answer, list_answer};
 ghost use Rattle.sheet.specs.FaultyRow.{IsPart, faulty_part};
 
@@ -15,15 +16,23 @@ pub struct Accepted {
     pub cables: u64,
 }
 
+// What an accepted sheet's check answers.
+fn accept(sheet: &[u8], cables: usize) -> Accepted
+    ensures switches { result.switches ≡ switches_of sheet.now }
+    ensures cables { result.cables ≡ cables }
+{
+    Accepted {
+        switches: byte_at(sheet, 1) as u64,
+        cables: cables as u64,
+    }
+}
+
 pub fn check_sheet(sheet: &[u8]) -> Result<Accepted, Refusal>
     ensures { answer_of result ≡ sheet_answer sheet.now }
 {
     let mut rows = Rows::new(sheet);
     read_sheet(&mut rows)?;
-    Ok(Accepted {
-        switches: u64::from(byte_at(sheet, 1)),
-        cables: rows.count as u64,
-    })
+    Ok(accept(sheet, rows.count))
 }
 
 // Where the first wrong record stands: its start and its length. The empty part at the sheet's front where nothing is wrong.
@@ -41,7 +50,7 @@ pub struct Lists<'a> {
 }
 
 impl<'a> Lists<'a> {
-    // The sheet, then the fault list against it.
+    // The sheet, then the fault list against it. The outline wants `let .. else` for each check, and no `?`.
     pub fn check_faults(&self) -> Result<Accepted, Refusal>
         ensures { answer_of result ≡ list_answer self.now.sheet.now self.now.faults.now }
     {
@@ -54,10 +63,7 @@ impl<'a> Lists<'a> {
         let Ok(_) = list else {
             return Err(list.unwrap_err().into());
         };
-        Ok(Accepted {
-            switches: u64::from(byte_at(self.sheet, 1)),
-            cables: rows.count as u64,
-        })
+        Ok(accept(self.sheet, rows.count))
     }
 
     pub fn faulty_part(&self) -> Part

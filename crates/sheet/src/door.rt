@@ -4,7 +4,8 @@ ghost use Rattle.sheet.specs.FaultyRow.{packed, part_number, faulty_part};
 
 use crate::check::{Lists, Part};
 
-// The list is 0 or 1, as C wants it. The largest number where a start or a length does not fit, which never comes: the first wrong record stands among the first 513.
+// The list is 0 or 1, as C wants it. The largest number where a start or a length does not fit, which never comes: the first wrong record
+// stands among the first 513.
 fn pack(list: u64, start: usize, size: usize) -> u64
     requires { list ≤ 1 }
     ensures { result ≡ packed list start size }
@@ -16,6 +17,7 @@ fn pack(list: u64, start: usize, size: usize) -> u64
     }
 }
 
+// C passes two slices.
 pub fn sheet_faulty_row<'a>(sheet: &'a [u8], faults: &'a [u8]) -> u64
     ensures { result ≡ part_number (faulty_part sheet.now faults.now) }
 {

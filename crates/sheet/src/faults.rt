@@ -17,7 +17,8 @@ fn names(faults: &[u8], at: usize, c: Cable) -> bool
     c.carries(switch, port)
 }
 
-// A cable is live if no fault names a port that carries one of its ends. The first that does settles it.
+// A cable is live if no fault names a port that carries one of its ends. The first that does settles it. Cable and fault list are two
+// parameters: the list is the same for all cables.
 pub fn is_live(c: Cable, faults: &[u8]) -> bool
     ensures { result ≡ live (faults_of faults.now) c }
 {

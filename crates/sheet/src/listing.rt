@@ -37,7 +37,7 @@ pub struct Layout {
 
 // Records that are each held to the rules on them and then taken in. Its layout is no constant: an impl for a type with a lifetime can
 // have none yet.
-pub trait Listing {
+pub trait RecordList {
     ghost Item: { Type 0 };
 
     ghost read: { List ℕ → ℕ → Item };
@@ -87,7 +87,7 @@ pub fn next_record(
 }
 
 // Takes in every record, or stops at the first wrong one.
-pub fn read_list<L: Listing>(list: &mut L) -> Result<(), Wrong>
+pub fn read_list<L: RecordList>(list: &mut L) -> Result<(), Wrong>
     requires { L.taken list.old ≡ 0 }
     ensures told { let records = wholes L.layout.place L.read (L.taken list.new) (L.bytes list.old) L.layout.from in
         reading_of (λ _. records) result

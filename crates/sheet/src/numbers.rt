@@ -19,7 +19,7 @@ impl From<u8> for Switch {
     ghost from_gives = { λ byte v. v.0 ≡ byte };
 
     fn from(byte: u8) -> Switch {
-        Switch(byte as u64)
+        Switch(u64::from(byte))
     }
 }
 
@@ -27,6 +27,6 @@ impl From<u8> for Port {
     ghost from_gives = { λ byte p. p.0 ≡ byte };
 
     fn from(byte: u8) -> Port {
-        Port(byte as u64)
+        Port(u64::from(byte))
     }
 }

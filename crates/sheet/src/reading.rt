@@ -9,10 +9,10 @@ ghost use Rattle.sheet.specs.declared.cables.Cable.{Cable as Row};
 ghost use Rattle.sheet.specs.declared.rules.Rule.TheVariants.{SheetForm, FaultForm};
 
 use crate::cables::{Cable, cable_at};
-use crate::listing::{Layout, Listing, Wrong, next_record, read_list};
+use crate::listing::{Layout, RecordList, Wrong, next_record, read_list};
 use crate::numbers::{Port, Switch};
 use crate::ranges::{are_within, is_within};
-use crate::records::{FAULT, FRONT, MOST_RECORDS, ROW, byte_at};
+use crate::records::{FAULT, FORMS, FRONT, MOST_RECORDS, ROW, byte_at};
 use crate::rules::Rule;
 use crate::used::Rows;
 
@@ -20,7 +20,7 @@ use crate::used::Rows;
 const ROWS: Layout = Layout {
     place: ROW,
     form: Rule::SheetForm,
-    from: 2,
+    from: 1 + FORMS[1].body,
     most: MOST_RECORDS,
 };
 
@@ -50,7 +50,7 @@ fn judge_row(c: Cable, rows: &Rows) -> Result<(), Rule>
     Ok(())
 }
 
-impl<'a> Listing for Rows<'a> {
+impl<'a> RecordList for Rows<'a> {
     ghost Item = { Row };
 
     ghost read = { cable_at };
@@ -87,7 +87,7 @@ struct Faults<'a> {
     rows: &'a Rows<'a>,
 }
 
-impl<'a> Listing for Faults<'a> {
+impl<'a> RecordList for Faults<'a> {
     ghost Item = { Socket };
 
     ghost read = { fault_at };

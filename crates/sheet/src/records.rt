@@ -69,7 +69,8 @@ pub enum Found {
     Ended,
 }
 
-// The byte at a position, 0 past the end.
+// The byte at a position, 0 past the end. Bytes and a position are two parameters wherever the format is read, since positions are what the
+// definitions speak of.
 pub fn byte_at(bytes: &[u8], at: usize) -> u8
     ensures { result ≡ get_or bytes.now at 0 }
 {

@@ -9,15 +9,16 @@ use crate::cables::{Cable, End};
 use crate::numbers::{Port, Switch};
 use crate::ranges::is_within;
 
-// The first `count` rows of a sheet of so many switches. Which ports they use is kept as a number for each switch, in which bit p stands
-// for port p: 512 bytes serve all switches.
+// The first `count` rows of a sheet of so many switches, 0 until its front is read. Which ports they use is kept as a number for each
+// switch, in which bit p stands for port p: 512 bytes serve all switches. Contracts say the rows by `first_rows` of sheet and count: a
+// Model would have to hold the switches and the count besides.
 #[derive(Drop)]
 pub struct Rows<'a> {
     pub sheet: &'a [u8],
     pub switches: u64,
     pub count: usize,
     used: [u64; 64],
-    pub ghost few: { switches ≤ 64 },
+    ghost few: { switches ≤ 64 },
     ghost marks: { Marks used (first_rows sheet.now count) },
 }
 

@@ -12,6 +12,8 @@ pub struct Cell {
 }
 
 impl Cell {
+    // That the two bytes are inside the tag is asked of each caller: the tag is the agent's, and no type of ours. The casts of `write` are
+    // proved to lose nothing.
     pub(crate) fn read(tag: &[u8], v: Switch) -> Cell
         requires { CellInside tag.now v.0 }
         ensures exact { result ≡ cell_of tag.now v.0 }

@@ -42,7 +42,8 @@ fn by_parent(cell: Cell) -> Option<Leave>
 }
 
 impl Ports<'_> {
-    // The choice among the cables from a position on.
+    // The choice among the cables from a position on. That the current port fits a byte is asked here, and is no fact of the type: a Cell
+    // that a caller makes may hold any ports.
     fn first_open(&self, cell: Cell, from: Position) -> Option<Leave>
         requires { cell.current.0 < 256 }
         ensures exact { outcome_of result ≡ first_open (faults_of self.now.faults.now) cell.parent.0 cell.current.0
@@ -73,6 +74,7 @@ impl Ports<'_> {
         Position(at.0 + 1)
     }
 
+    // The bound as for `first_open`.
     pub(crate) fn choose(&self, cell: Cell) -> Option<Leave>
         requires { cell.current.0 < 256 }
         ensures exact { outcome_of result ≡ choose (faults_of self.now.faults.now) cell.parent.0 cell.current.0 self.now.order }

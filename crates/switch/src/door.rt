@@ -11,7 +11,7 @@ use sheet::refusals::Refusal;
 // The weight of an end in the number: a port or a refusal number stays far below it.
 const END: u64 = 4294967296;
 
-// The answer as one number: the end's weight, and the port or the refusal number.
+// The answer as one number, as C takes it: the end's weight, and the port or the refusal number.
 fn number_of(answer: Result<Move, Refusal>) -> u64
     ensures { result ≡ door_number (paper_of answer) }
 {
@@ -23,7 +23,8 @@ fn number_of(answer: Result<Move, Refusal>) -> u64
     }
 }
 
-// One step for a host program in C. All 64-bit numbers are answered: a number past the switches is refused, and is no other switch.
+// One step for a host program in C, which passes two slices and three numbers. All 64-bit numbers are answered: a number past the switches
+// is refused, and is no other switch.
 pub fn switch_step<'a>(
     present: u64,
     arrival: u64,

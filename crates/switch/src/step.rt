@@ -40,7 +40,9 @@ pub fn advance(ports: &Ports<'_>, tag: &mut [u8], v: Switch, arrival: Port, d: S
     Move::Leaves(port, ports.order.far_end(port))
 }
 
-// One step, from the bytes: refusals 1 to 5, then 6 to 10, then the step itself. Each check's refusal is passed on as it is.
+// One step, from the bytes: refusals 1 to 5, then 6 to 10, then the step itself. Each check's refusal is passed on as it is, by `let ..
+// else` as the outline wants it, and not by `?`. Present switch, arrival port and destination stay three parameters, as the outline lists
+// them; the tag beside them is lent to be written.
 pub fn step(
     lists: &Lists<'_>,
     tag: &mut [u8],

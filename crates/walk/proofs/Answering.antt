@@ -8,7 +8,7 @@ use native.Mathlib.Omega.{arith}
 use lib.ListN.{length, take, drop, replicate, length-append, length-drop, length-replicate}
 use lib.Seq.{take_at, drop_at}
 use lib.Dec.{leb}
-use Rattle.std.specs.Prelude.{Result as Checked, Ok, Err}
+use Rattle.std.specs.Prelude.{Result as Answered, Ok, Err}
 use borrow.Author.Tests.{leb-true}
 use Rattle.sheet.specs.Cables.{switches_of}
 use Rattle.sheet.specs.Refusals.{answer_of, accepted, list_answer, refusal_number}
@@ -28,7 +28,7 @@ rule_passed number true e = refl
 rule_passed number false e = absurd (passed≢refused e refl)
 
 -- a check that passes is a rule that does
-so_passed : {done : Unit {0}} {check : Checked (Unit {0}) Refusal} {is : Check} → check_of check ≡ is → check ≡ Ok done → is ≡ Passed
+so_passed : {done : Unit {0}} {check : Answered (Unit {0}) Refusal} {is : Check} → check_of check ≡ is → check ≡ Ok done → is ≡ Passed
 so_passed says passed = sym says ∙ ap check_of passed
 
 module _ (s faults tag trace : List ℕ) (source destination : ℕ) where
@@ -57,11 +57,11 @@ module _ (s faults tag trace : List ℕ) (source destination : ℕ) where
 
   -- ---- the check that refuses
 
-  pub lists_turn_away : (w : Walked) {lists : Checked Accepted Refusal} {refusal : Refusal} → answer_of lists ≡ list_answer s faults
+  pub lists_turn_away : (w : Walked) {lists : Answered Accepted Refusal} {refusal : Refusal} → answer_of lists ≡ list_answer s faults
       → lists ≡ Err refusal → paper_of w ≡ paper 3 0 0 (refusal_number refusal) → Promised w tag trace
   lists_turn_away w answer e = refusal w (lists_refuse s faults tag trace source destination (sym answer ∙ ap answer_of e))
 
-  module _ {lists : Checked Accepted Refusal} {accepts : Accepted} (answer : answer_of lists ≡ list_answer s faults)
+  module _ {lists : Answered Accepted Refusal} {accepts : Accepted} (answer : answer_of lists ≡ list_answer s faults)
       (accepted_so : lists ≡ Ok accepts) where
     listed : list_answer s faults ≡ accepted accepts.switches accepts.cables
     listed = sym answer ∙ ap answer_of accepted_so
@@ -69,13 +69,13 @@ module _ (s faults tag trace : List ℕ) (source destination : ℕ) where
     pub few : accepts.switches ≤ 64
     few = (lists_few s faults listed).0
 
-    module _ {a : Checked (Unit {0}) Refusal} (first : check_of a ≡ switches_rule accepts.switches source destination) where
+    module _ {a : Answered (Unit {0}) Refusal} (first : check_of a ≡ switches_rule accepts.switches source destination) where
       pub switches_turn_away : (w : Walked) {refusal : Refusal} → a ≡ Err refusal → paper_of w ≡ paper 3 0 0 (refusal_number refusal)
           → Promised w tag trace
       unfolding walk_checks
       switches_turn_away w e = refusal w (rw (listed, sym first ∙ ap check_of e))
 
-      module _ {done : Unit {0}} (passed : a ≡ Ok done) {b : Checked (Unit {0}) Refusal}
+      module _ {done : Unit {0}} (passed : a ≡ Ok done) {b : Answered (Unit {0}) Refusal}
           (second : check_of b ≡ tag_rule accepts.switches tag) where
         pub tag_turn_away : (w : Walked) {refusal : Refusal} → b ≡ Err refusal → paper_of w ≡ paper 3 0 0 (refusal_number refusal)
             → Promised w tag trace
@@ -86,7 +86,7 @@ module _ (s faults tag trace : List ℕ) (source destination : ℕ) where
           pub tag_fits : 2 * accepts.switches ≤ length tag
           tag_fits = leb-true (2 * accepts.switches) (length tag) (rule_passed 7 (leb (2 * accepts.switches) (length tag)) (so_passed second passed'))
 
-          module _ {c : Checked (Unit {0}) Refusal} (third : check_of c ≡ trace_rule accepts.cables trace) where
+          module _ {c : Answered (Unit {0}) Refusal} (third : check_of c ≡ trace_rule accepts.cables trace) where
             pub trace_turn_away : (w : Walked) {refusal : Refusal} → c ≡ Err refusal → paper_of w ≡ paper 3 0 0 (refusal_number refusal)
                 → Promised w tag trace
             unfolding walk_checks

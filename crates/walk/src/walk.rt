@@ -56,7 +56,7 @@ fn check_trace(cables: u64, trace: &[u8]) -> Result<(), Refusal>
     rule(Refusal::NoRoom, cables <= trace.len() as u64 / 4)
 }
 
-// Zeros for the first bytes of the tag.
+// Zeros for the first bytes of the tag. It takes a size beside the tag, since it promises the bytes beyond too.
 fn clear(tag: &mut [u8], size: usize)
     requires { size ≤ length tag.old }
     ensures { tag.new ≡ replicate size 0 ++ drop size tag.old }
@@ -97,7 +97,8 @@ fn carry(
     let mut at = source;
     let mut arrival = NO_PORT;
     let mut hops: usize = 0;
-    // Hops are counted here since the answer holds the count. What ends the loop is a step, and no end of a list.
+    // Hops are counted here since the answer holds the count. What ends the loop is a step, and no end of a list: a `for` over the hops
+    // would need an answer after it that never comes.
     loop {
         let (port, far) = match move_on(lists, tag, at, arrival, destination) {
             Move::Leaves(port, far) => (port, far),
@@ -112,7 +113,9 @@ fn carry(
     }
 }
 
-// The walk. It checks sheet, fault list, switches and room, and then hops; a refusal writes nothing.
+// The walk. It checks sheet, fault list, switches and room, and then hops; a refusal writes nothing, and is passed on by `let .. else`, as
+// the outline wants it, and not by `?`. Source and destination stay two parameters, as an ask names them, and tag and trace two buffers,
+// each with a length of its own to be checked.
 pub fn walk(
     lists: &Lists<'_>,
     tag: &mut [u8],

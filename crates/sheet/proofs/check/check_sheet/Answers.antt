@@ -16,4 +16,4 @@ pub returns : goal.returns
 unfolding sheet_answer
 returns c =
     let told = rw c.new-rows.ensures.0 at c.in_ok-read_sheet.ensures.told in
-    rw (← told) (ap₂ accepted (c.from.ensures ∙ c.byte_at.ensures) (sym c.in_ok-read_sheet.ensures.counted))
+    rw (← told) (ap₂ accepted c.accept.ensures.switches (c.accept.ensures.cables ∙ sym c.in_ok-read_sheet.ensures.counted))

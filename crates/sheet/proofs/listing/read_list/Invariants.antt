@@ -5,7 +5,7 @@ use Rattle.sheet.proofs.listing.read_list.Given as goal
 
 abbrev pub invariant-loop : goal.invariant-loop
 invariant-loop g l =
-    let t = g.L.Listing in
+    let t = g.L.RecordList in
     Listed t.layout.place t.layout.form t.read (t.check l.initial.list) t.layout.most (t.bytes l.initial.list) t.layout.from l.start (t.taken l.list)
     × (t.taken l.list ≡ l.counter)
     × (t.bytes l.list ≡ t.bytes l.initial.list)

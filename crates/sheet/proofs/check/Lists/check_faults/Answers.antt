@@ -23,4 +23,4 @@ unfolding list_answer
 returns c =
     let told = rw c.new-rows.ensures.0 at c.in-Ok.ensures.told in
     let list = told_right _ (sym c.read_faults-list.ensures ∙ c.in-Ok-list.is) in
-    rw (← told, list.read) (ap₂ accepted (c.from.ensures ∙ c.byte_at.ensures) (sym c.in-Ok.ensures.counted))
+    rw (← told, list.read) (ap₂ accepted c.accept.ensures.switches (c.accept.ensures.cables ∙ sym c.in-Ok.ensures.counted))

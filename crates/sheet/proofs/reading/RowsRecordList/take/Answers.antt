@@ -3,7 +3,7 @@ use Rattle.std.proofs.Common.{sym, arith}
 use Rattle.sheet.specs.Sound.{RowInRange}
 use Rattle.sheet.specs.Used.{first_rows}
 use Rattle.sheet.proofs.Rows.{row_fine}
-use Rattle.sheet.proofs.reading.RowsListing.take.Goals as goal
+use Rattle.sheet.proofs.reading.RowsRecordList.take.Goals as goal
 
 pub use_cable-requires-clause-range : goal.use_cable-requires-clause-range
 use_cable-requires-clause-range c = let rows = c.args.self.now in

@@ -1,7 +1,7 @@
 -- A fault is right where it names a used port.
 use Rattle.std.proofs.Common.{sym, ◌∙◌}
 use Rattle.sheet.specs.Faults.{fault_rule}
-use Rattle.sheet.proofs.reading.FaultsListing.take.Goals as goal
+use Rattle.sheet.proofs.reading.FaultsRecordList.take.Goals as goal
 
 pub returns-then-not-is_used-clause-judged : goal.returns-then-not-is_used-clause-judged
 unfolding fault_rule
