@@ -1,12 +1,12 @@
 -- A reader's bytes in a buffer: what was read before, and behind it what was read now.
-use Rattle.std.proofs.Common.{◌≡◌, ℕ, ◌+◌, ◌≤◌, List, ◌++◌, length, take, None, Some, ap, sym, subst, ◌∙◌, append_assoc, length-take-le, take_all, append-nil, ◌<◌, [], ◌∷◌, refl, arith, IfSome}
+use Rattle.std.proofs.Common.{◌≡◌, ℕ, ◌+◌, ◌≤◌, List, ◌++◌, length, take, None, Some, ap}
+use Rattle.std.proofs.Common.{sym, subst, ◌∙◌, append_assoc, length-take-le, take_all, append-nil, ◌<◌, [], ◌∷◌, arith, IfSome}
 use Rattle.std.specs.declared.option.Option.{Option}
 use Rattle.std.specs.Io.KnownBytes.{Consumes, IsAtEnd}
 use Rattle.std.proofs.lemmas.List.{take-append-le, take_at}
 use Rattle.std.proofs.Math.Seq.{take-append-add}
 use Rattle.lines.specs.Asks.{ask_at}
 use Rattle.lines.specs.declared.asks.Ask.{Ask}
-use Rattle.lines.specs.declared.asks.Ask.TheVariants.{Asked, Broken}
 use Rattle.lines.proofs.Window.{window_asks, later}
 use borrow.Rule.Slice.PartMut.{put_mid, post_of}
 
@@ -18,13 +18,12 @@ consumes_both (Some s) (Some t) None xs ys p q = absurd q
 consumes_both (Some s) (Some t) (Some u) xs ys p q = p ∙ ap (λ l. xs ++ l) q ∙ sym (append_assoc xs ys u)
 
 -- a buffer whose front was full, and into which more was put behind it
-front_grows : (xs ys : List ℕ) (size room more : ℕ) → size ≤ length xs → more ≤ length ys → take (size + more) (put_mid size room xs ys) ≡ take size xs ++ take more ys
+front_grows : (xs ys : List ℕ) (size room more : ℕ) → size ≤ length xs → more ≤ length ys
+    → take (size + more) (put_mid size room xs ys) ≡ take size xs ++ take more ys
 front_grows xs ys size room more p q =
-    let front = take size xs in
-    let rest = post_of size room xs in
-    let long : length front ≡ size = length-take-le size xs p in
-    ap (λ k. take (k + more) (front ++ (ys ++ rest))) (sym long) ∙ take-append-add front (ys ++ rest) more
-    ∙ ap (λ l. front ++ l) (take-append-le more ys rest q)
+    let long : length (take size xs) ≡ size = length-take-le size xs p in
+    rw long at (take-append-add (take size xs) (ys ++ post_of size room xs) more)
+    ∙ ap (λ l. take size xs ++ l) (take-append-le more ys (post_of size room xs) q)
 
 -- so the longer front holds what both reads gave
 pub consumes_more : (a b c : Option (List ℕ)) (xs ys : List ℕ) (size room more : ℕ) → size ≤ length xs → more ≤ length ys
@@ -39,9 +38,7 @@ window_is s (x ∷ t) bytes size few whole end = ap (take size) whole ∙ grind 
 
 -- a place counted from the front is itself
 from_front : (ask : Ask) → later 0 ask ≡ ask
-from_front (Asked source destination next) = ap (λ k. Asked source destination k) (omega arith)
-from_front Broken = refl
-from_front Ask.Ended = refl
+from_front ask = grind arith
 
 -- so the window shows the ask that stands first
 pub ask_read : (a b : Option (List ℕ)) (bytes : List ℕ) → length bytes ≤ 3 → Consumes a b bytes → (length bytes < 3 → IsAtEnd b)

@@ -19,6 +19,7 @@ use std::{fs, io};
 // Reads until the buffer is full or the file ends, and answers what was read. What cannot be read, as a directory, fails. A loop of its
 // own, going by what each read gives: std's `read_exact` does not say how much came before the end, and `io::copy` reads through a second
 // buffer.
+#[tactic(auto, using(crate::proofs::Filling::consumes_more))]
 fn fill<'a, R: Read>(file: &mut R, buffer: &'a mut [u8]) -> io::Result<&'a [u8]>
     ensures upper_bound { IfOk result (λ bytes. length bytes.now ≤ length buffer.old) }
     ensures read { IfOk result (λ bytes. Consumes (R.remaining file.old) (R.remaining file.new) bytes.now) }
@@ -34,9 +35,9 @@ fn fill<'a, R: Read>(file: &mut R, buffer: &'a mut [u8]) -> io::Result<&'a [u8]>
     Ok(&buffer[..size])
 }
 
-// The file that an argument names, opened; none where there is no such argument, it is no text, or it cannot be opened. It takes the system
-// and not the bound `Env`: through that a program stands on the kit's word for four C functions more, `getcwd` and `chdir` among them. The
-// name is a buffer with a length beside it, since that is how the system hands an argument out.
+// The file that an argument names, opened; none where there is no such argument, it is no text, it is longer than 4,096 bytes, or it cannot
+// be opened. It takes the system and not the bound `Env`: through that a program stands on the kit's word for four C functions more,
+// `getcwd` and `chdir` among them. The name is a buffer with a length beside it: `env::args` would ask for that bound, and for memory.
 fn open(rt: &HostRuntime, index: usize) -> Option<File> {
     let mut name = [0u8; 4096];
     let length = rt.arg(index, &mut name).ok()?;
@@ -53,6 +54,7 @@ fn read_file<'a>(rt: &HostRuntime, index: usize, buffer: &'a mut [u8]) -> Option
 }
 
 // The next ask of a file. The window holds one ask, which has three bytes, and shows it as the file does (`window_asks`).
+#[tactic(auto, using(crate::proofs::Filling::ask_read))]
 fn read_ask<R: Read>(file: &mut R) -> io::Result<Ask>
     ensures { IfOk result (λ ask. IfSome (R.remaining file.old) (λ asks. ask ≡ ask_at asks 0)) }
 {

@@ -11,14 +11,13 @@ use Rattle.std.specs.Simd.{first_chunks}
 use Rattle.walk.specs.Network.{Dart}
 use Rattle.walk.specs.Walk.{ended, paper_of}
 use Rattle.walk.specs.Condition3.{hops_in}
-use Rattle.sheet.specs.Refusals.{refusal_number}
-use Rattle.sheet.proofs.OneAnswer.{refusal_small}
 use Rattle.walk.specs.declared.walk.End.{End}
 use Rattle.walk.specs.declared.walk.End.TheVariants.{Delivered, None}
 use Rattle.walk.specs.declared.walk.Walked.{Walked}
 use Rattle.lines.specs.declared.text.Line.{Line}
 use Rattle.lines.specs.Text.{decimal, added}
-use Rattle.lines.specs.Lines.{delivered_word, none_word, refused_word, blank, hop_text, hops_text, way_text, refusal_text, end_text, line_of, hops_of, line_after}
+use Rattle.lines.specs.Lines.{delivered_word, none_word, refused_word, blank, hop_text, hops_text, way_text, refusal_text, end_text}
+use Rattle.lines.specs.Lines.{line_of, hops_of, line_after}
 use Rattle.lines.proofs.Texts.{decimal_word, decimal_byte, added_append, Done, line_done}
 
 -- the first pairs of a trace are its first hops
@@ -76,20 +75,21 @@ way_length word count hops h counted few =
 refusal_length : (number : ℕ) → number < 2 ^ 64 → length (refusal_text number) ≤ 28
 refusal_length number h = omega (arith, length-append refused_word (blank (decimal number)), decimal_word number h)
 
-end_length : (e : End) (switch count : ℕ) (hops : List Dart) → count < 2 ^ 64 → length (hops_text hops) ≤ 8192 → length (end_text (ended e switch count) hops) ≤ 8222
-end_length Delivered switch count hops counted few = way_length delivered_word count hops (omega arith) counted few
-end_length None switch count hops counted few = way_length none_word count hops (omega arith) counted few
-end_length (End.Refused refusal) switch count hops counted few =
-    omega (arith, refusal_length (refusal_number refusal) (let small = refusal_small refusal in omega arith))
+end_length : (e : End) (switch count : ℕ) (hops : List Dart) → (ended e switch count).number < 2 ^ 64 → count < 2 ^ 64
+    → length (hops_text hops) ≤ 8192 → length (end_text (ended e switch count) hops) ≤ 8222
+end_length Delivered switch count hops fits counted few = way_length delivered_word count hops (omega arith) counted few
+end_length None switch count hops fits counted few = way_length none_word count hops (omega arith) counted few
+end_length (End.Refused number) switch count hops fits counted few = omega (arith, refusal_length number fits)
 
 -- a line has at most 8,265 bytes
-line_length : (source destination : ℕ) (walked : Walked) (trace : List ℕ) → source < 2 ^ 64 → destination < 2 ^ 64
+line_length : (source destination : ℕ) (walked : Walked) (trace : List ℕ) → (paper_of walked).number < 2 ^ 64
+    → source < 2 ^ 64 → destination < 2 ^ 64
     → walked.hops ≤ 1024 → ((i : ℕ) → get_or trace i 0 < 256)
     → length (line_after source destination walked trace) ≤ 8265
 unfolding line_of
-line_length source destination walked trace h h' few small =
+line_length source destination walked trace fits h h' few small =
     let end : length (end_text (paper_of walked) (hops_in walked.hops trace)) ≤ 8222 =
-    end_length walked.end walked.switch.0 walked.hops (hops_in walked.hops trace) (omega arith)
+    end_length walked.end walked.switch.0 walked.hops (hops_in walked.hops trace) fits (omega arith)
     (omega (arith, hops_length walked.hops trace small)) in
     simp length-append (omega (arith, end, decimal_word source h, decimal_word destination h'))
 
@@ -103,9 +103,7 @@ module _ (source destination : ℕ) (walked : Walked) (trace : List ℕ) (room :
 
   -- the switch where a walk ended is not told
   no_switch : (e : End) (hops : List Dart) → end_text (ended e 0 walked.hops) hops ≡ end_text (ended e walked.switch.0 walked.hops) hops
-  no_switch Delivered hops = refl
-  no_switch None hops = refl
-  no_switch (End.Refused refusal) hops = refl
+  no_switch e hops = grind arith
 
   pub line_pairs : line_of source destination (ended walked.end 0 (length pairs)) (hops_of pairs)
       ≡ line_after source destination walked trace
@@ -116,14 +114,16 @@ module _ (source destination : ℕ) (walked : Walked) (trace : List ℕ) (room :
       (no_switch walked.end (hops_in walked.hops trace)))
 
   -- so a line that was begun and given the pairs is the line of the answer and the trace
-  module _ (source_fits : source < 2 ^ 64) (destination_fits : destination < 2 ^ 64) (few : walked.hops ≤ 1024)
+  module _ (fits : (paper_of walked).number < 2 ^ 64) (source_fits : source < 2 ^ 64) (destination_fits : destination < 2 ^ 64)
+      (few : walked.hops ≤ 1024)
       (small : (i : ℕ) → get_or trace i 0 < 256) where
     pub line_put : {before after : Line} {given : List (List ℕ)} → before.size ≡ 0 → given ≡ first_chunks 2 (length trace / 2) trace
-        → after ≡ added before (line_of source destination (ended walked.end 0 (length (take walked.hops given))) (hops_of (take walked.hops given)))
+        → after ≡ added before (line_of source destination (ended walked.end 0 (length (take walked.hops given)))
+        (hops_of (take walked.hops given)))
         → Done before after (line_after source destination walked trace) × (after.size ≤ 8265)
     line_put {before} {after} begun e put =
         let short : length (line_after source destination walked trace) ≤ 8265 =
-        line_length source destination walked trace source_fits destination_fits few small in
+        line_length source destination walked trace fits source_fits destination_fits few small in
         let done : Done before after (line_after source destination walked trace) =
         line_done begun (omega arith) (rw e at put ∙ ap (added before) line_pairs) in
         (done, omega (arith, done.size_is))

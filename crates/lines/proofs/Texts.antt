@@ -8,7 +8,7 @@ use mathlib.Core.List.{List, [], ◌∷◌, ◌++◌}
 use native.Mathlib.Omega.{arith}
 use lib.ListN.{length, get_or, take, set}
 use lib.Seq.{sets, take-nil, take-suc}
-use borrow.Author.Tests.{le-leb, lt-leb}
+use Rattle.std.proofs.lemmas.Bool.Decides.{nat_tests}
 use Rattle.std.proofs.lemmas.Fmt.{decimal_from_appends, length-decimal-le, length-decimal-le_succ}
 use Rattle.std.specs.Fmt as printed
 use Rattle.lines.specs.Text.{digits, decimal, one_more, added, filled}
@@ -18,11 +18,11 @@ use Rattle.lines.specs.declared.text.Line.{Line}
 
 digits_less : (most n : ℕ) → n < 10 → digits (suc most) n ≡ (48 + n) ∷ []
 unfolding digits
-digits_less most n h = rw (lt-leb 10 n h) (ap (λ (d : ℕ). (48 + d) ∷ []) (omega arith))
+digits_less most n h = grind (arith, nat_tests)
 
 digits_more : (most n : ℕ) → 10 ≤ n → digits (suc most) n ≡ digits most (n / 10) ++ ((48 + n % 10) ∷ [])
 unfolding digits
-digits_more most n h = rw (le-leb 10 n h)
+digits_more most n h = grind (arith, nat_tests)
 
 -- a number of 64 bits has the digits that the library prints
 module _ (n : ℕ) (h : n < 2 ^ 64) where
@@ -64,7 +64,8 @@ added_sets : (line : Line) (text : List ℕ) → line.size + length text < 2 ^ 6
 added_sets line [] h = ap (λ (k : ℕ). record line { size = k }) (sym (add-zero line.size))
 added_sets line (x ∷ text) h =
     ap (λ (k : ℕ). added (record line { buffer = record line.buffer { now = set line.buffer.now line.size x }; size = k }) text) one
-    ∙ added_sets (record line { buffer = record line.buffer { now = set line.buffer.now line.size x }; size = suc line.size }) text (omega arith)
+    ∙ added_sets (record line { buffer = record line.buffer { now = set line.buffer.now line.size x }; size = suc line.size }) text
+    (omega arith)
     ∙ ap (λ (k : ℕ).
     record line { buffer = record line.buffer { now = sets (set line.buffer.now line.size x) (suc line.size) text }; size = k })
     (omega arith)
@@ -82,7 +83,7 @@ sets_nothing at [] = refl
 sets_nothing at (b ∷ a) = sets_nothing (suc at) a
 
 sets_filled : (line text : List ℕ) → sets line 0 text ≡ filled text line
-sets_filled line [] = sym (ap (λ (l : List ℕ). l ++ line) (take-nil (length line)))
+sets_filled line [] = simp take-nil
 sets_filled [] (b ∷ text) = sets_nothing 1 text
 sets_filled (x ∷ line) (b ∷ text) = sets_later b line 0 text ∙ ap (λ (l : List ℕ). b ∷ l) (sets_filled line text)
 

@@ -7,28 +7,22 @@ use native.Mathlib.Omega.{arith}
 use lib.ListN.{length, drop, length-append}
 use Rattle.sheet.specs.Cables.{switches_of}
 use Rattle.sheet.specs.Sound.{Within}
-use Rattle.walk.specs.Walk.{ended, paper_of, Result, Walks, turned_away, arrives, trace_bytes}
+use Rattle.walk.specs.Walk.{paper_of, Result, Walks, turned_away, arrives, trace_bytes}
 use Rattle.walk.specs.Condition3.{hops_in}
-use Rattle.walk.specs.declared.walk.End.{End}
-use Rattle.walk.specs.declared.walk.End.TheVariants.{Delivered, None}
 use Rattle.walk.specs.declared.walk.Walked.{Walked}
 use Rattle.walk.proofs.Checking.{passed_premises, lists_switches, lists_cables, lists_sound, lists_few}
 use Rattle.walk.proofs.Computing.{way_bound, walks_is}
-use Rattle.walk.proofs.OneAnswer.{walks_one, Told}
+use Rattle.walk.proofs.Exactly.{checks_exactly, refusal_numbers}
+use Rattle.walk.proofs.OneAnswer.{paper_hops, walks_one, Told}
 use Rattle.walk.proofs.Room.{trace_length}
 use Rattle.lines.specs.Text.{filled}
 use Rattle.lines.specs.Lines.{line_of, line_after, line_for, Written}
 
--- the paper's hop count is the answer's
-hops_are : (a : End) (switch hops : ℕ) → (ended a switch hops).hops ≡ hops
-hops_are Delivered switch hops = refl
-hops_are None switch hops = refl
-hops_are (End.Refused refusal) switch hops = refl
-
 module _ {s faults tag trace : List ℕ} {source destination : ℕ} where
   fits : {w : Result} → Walks s faults tag trace source destination w
-      → (w.paper.hops ≤ 1024) × (2 * w.paper.hops ≤ length w.trace)
-  fits (turned_away e) = (omega arith, omega arith)
+      → (w.paper.hops ≤ 1024) × (2 * w.paper.hops ≤ length w.trace) × (w.paper.number ≤ 7)
+  fits (turned_away {number} e) =
+      (omega arith, omega arith, (refusal_numbers ((checks_exactly s faults tag trace source destination number).0 e)).1)
   fits (arrives {k} e way end) =
       let p = passed_premises s faults tag trace source destination e in
       let on : Within (switches_of s) source = rw (lists_switches s faults p.lists) at p.source_on in (
@@ -39,13 +33,14 @@ module _ {s faults tag trace : List ℕ} {source destination : ℕ} where
           (lists_few s faults p.lists).1,
         ),
         omega (arith, trace_length k.trace, length-append (trace_bytes k.trace) (drop (2 * length k.trace) trace)),
+        omega arith,
       )
 
   module _ (walked : Walked) {tag' trace' : List ℕ} (told : Told s faults tag trace source destination walked tag' trace') where
     same_hops : (paper_of walked).hops ≡ walked.hops
-    same_hops = hops_are walked.end walked.switch.0 walked.hops
+    same_hops = paper_hops walked
 
-    pub walk_fits : (walked.hops ≤ 1024) × (2 * walked.hops ≤ length trace')
+    pub walk_fits : (walked.hops ≤ 1024) × (2 * walked.hops ≤ length trace') × ((paper_of walked).number ≤ 7)
     walk_fits = rw same_hops at (fits told)
 
     -- the line of the walk that was told is the line of every walk there is, since there is one

@@ -9,6 +9,7 @@ use sheet::check::Lists;
 use sheet::numbers::Switch;
 use walk::walk::{End, Walked, walk};
 
+// The text of a line, piece by piece and by no `write!`: the reason stands at `Line`.
 impl Line<'_> {
     // switch:port, after a blank.
     #[tactic(auto, using(crate::proofs::Texts::added_append))]
@@ -30,7 +31,7 @@ impl Line<'_> {
         }
     }
 
-    // A walk's end, its hop count and its hops.
+    // A walk's end, its hop count and its hops. The count is cast: between usize and u64 there is no `From`, and both have 64 bits.
     #[tactic(auto, using(crate::proofs::Texts::added_append))]
     fn put_way(&mut self, word: &str, hops: &[[u8; 2]])
         ensures { self.new ≡ added self.old (way_text word.now (length hops.now) (hops_of hops.now)) }
@@ -57,11 +58,11 @@ impl Line<'_> {
         match end {
             End::Delivered => self.put_way("delivered", hops),
             End::None => self.put_way("none", hops),
-            End::Refused(refusal) => self.put_refusal(refusal.number()),
+            End::Refused(number) => self.put_refusal(number),
         }
     }
 
-    // The whole line.
+    // The whole line. Source and destination are two parameters here and below, as an ask names them.
     #[tactic(auto, using(crate::proofs::Texts::added_append), unfolding(crate::specs::Lines::line_of))]
     fn put_answer(&mut self, source: Switch, destination: Switch, end: End, hops: &[[u8; 2]])
         ensures { self.new ≡ added self.old (line_of source.0 destination.0 (ended end 0 (length hops.now)) (hops_of hops.now)) }
@@ -75,7 +76,7 @@ impl Line<'_> {
     }
 }
 
-// The line for a walk that has ended, and its length.
+// The line for a walk that has ended, and its length. Its hops are counted in u64, and cast for the slice as in `put_way`.
 fn put_line(
     line: &mut [u8],
     source: Switch,
@@ -83,7 +84,7 @@ fn put_line(
     walked: Walked,
     trace: &[u8],
 ) -> usize
-    requires { (walked.hops ≤ 1024) × (2 * walked.hops ≤ length trace.now) }
+    requires { (walked.hops ≤ 1024) × (2 * walked.hops ≤ length trace.now) × ((paper_of walked).number ≤ 7) }
     ensures line { line.new ≡ filled (line_after source.0 destination.0 walked trace.now) line.old }
     ensures size { result ≡ length (line_after source.0 destination.0 walked trace.now) }
     ensures upper_bound { result ≤ 8265 }
@@ -99,6 +100,7 @@ fn put_line(
 }
 
 // The walk of an ask and its line. What does not fit is left out and still counted; 8,265 bytes hold every line.
+#[tactic(auto, using(crate::proofs::Walked::walk_fits))]
 pub fn write_line(
     lists: &Lists<'_>,
     source: Switch,

@@ -2,12 +2,13 @@
 use Prim.Native.Nat.{ℕ, zero, suc, ◌+◌, ◌≤◌}
 use mathlib.Core.Path.{◌≡◌, refl, ◌∙◌, ap}
 use mathlib.Core.List.{List, [], ◌∷◌, ◌++◌}
-use mathlib.Core.Logic.{◌⊎◌, inl, inr, ◌↔◌}
+use mathlib.Core.Logic.{inr, ◌↔◌}
 use native.Mathlib.Omega.{arith}
 use lib.ListN.{length, get_or, drop}
 use Rattle.sheet.specs.Lists.{◌∈◌, Once, All}
 use Rattle.sheet.specs.Records.{form_of}
 use Rattle.sheet.specs.Standing.{Whole}
+use Rattle.sheet.proofs.Lists.{in_append}
 
 -- in the table a kind stands at the place of its own number, or nowhere
 stands_kind : (k place : ℕ) → (form_of k).place.0 ≡ suc place → k ≡ suc place
@@ -38,19 +39,6 @@ first_bytes (suc k) [] h = absurd (omega arith)
 first_bytes (suc k) (x ∷ s) h = ap (λ (l : List ℕ). x ∷ l) (first_bytes k s (omega arith))
 
 module _ {A : Type 0} where
-  in_append : (x : A) (xs ys : List A) → (x ∈ (xs ++ ys)) ↔ ((x ∈ xs) ⊎ (x ∈ ys))
-  in_append x [] ys = (inr, λ h. elim h [ inl p ↦ absurd p | inr q ↦ q ])
-  in_append x (y ∷ xs) ys = (there (in_append x xs ys).0, back (in_append x xs ys).1)
-    where
-      there : (x ∈ (xs ++ ys) → (x ∈ xs) ⊎ (x ∈ ys)) → x ∈ (y ∷ xs ++ ys) → (x ∈ (y ∷ xs)) ⊎ (x ∈ ys)
-      there rest (inl p) = inl (inl p)
-      there rest (inr h) = elim (rest h) [ inl p ↦ inl (inr p) | inr q ↦ inr q ]
-
-      back : ((x ∈ xs) ⊎ (x ∈ ys) → x ∈ (xs ++ ys)) → (x ∈ (y ∷ xs)) ⊎ (x ∈ ys) → x ∈ (y ∷ xs ++ ys)
-      back rest (inl (inl p)) = inl p
-      back rest (inl (inr p)) = inr (rest (inl p))
-      back rest (inr q) = inr (rest (inr q))
-
   pub all_append : (P : A → Type 0) (xs ys : List A) → All P (xs ++ ys) ↔ (All P xs × All P ys)
   all_append P [] ys = (λ h. (tt, h), λ h. h.1)
   all_append P (x ∷ xs) ys = (
@@ -66,21 +54,14 @@ module _ {A : Type 0} where
 
   pub once_append : (xs ys : List A) → Once (xs ++ ys) ↔ Apart xs ys
   once_append [] ys = (λ h. record { first = tt; second = h; apart = λ x p. absurd p }, λ h. h.second)
-  once_append (y ∷ xs) ys = (split (once_append xs ys).0, join (once_append xs ys).1)
-    where
-      split : (Once (xs ++ ys) → Apart xs ys) → Once (y ∷ xs ++ ys) → Apart (y ∷ xs) ys
-      split rest h =
-          record {
-            first = (λ m. h.0 ((in_append y xs ys).1 (inl m)), (rest h.1).first);
-            second = (rest h.1).second;
-            apart = λ x m n. elim m [
-              | inl p ↦ h.0 ((in_append y xs ys).1 (inr (rw p at n)))
-              | inr q ↦ (rest h.1).apart x q n
-            ];
-          }
-
-      join : (Apart xs ys → Once (xs ++ ys)) → Apart (y ∷ xs) ys → Once (y ∷ xs ++ ys)
-      join rest h = (
-        λ m. elim ((in_append y xs ys).0 m) [ inl p ↦ h.first.0 p | inr q ↦ h.apart y (inl refl) q ],
-        rest (record { first = h.first.1; second = h.second; apart = λ x p q. h.apart x (inr p) q }),
-      )
+  once_append (y ∷ xs) ys = (
+    λ h. let rest = (once_append xs ys).0 h.1 in record {
+      first = (λ m. grind (arith, in_append y xs ys), rest.first);
+      second = rest.second;
+      apart = λ x m n. grind (arith, in_append x xs ys, rest.apart x);
+    },
+    λ h. (
+      λ m. grind (arith, in_append y xs ys, h.apart y),
+      (once_append xs ys).1 (record { first = h.first.1; second = h.second; apart = λ x p q. h.apart x (inr p) q }),
+    ),
+  )

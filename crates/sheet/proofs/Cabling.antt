@@ -1,27 +1,28 @@
 -- What sound rows say of the cables at a switch. All of it comes from one list, the rows read from both ends: the cables seen from a
 -- switch are those of its elements that begin there, and no two of its elements begin at the same port of the same switch.
-use Prim.Native.Nat.{ℕ, suc, ◌+◌, ◌<◌}
+use Prim.Native.Nat.{ℕ, ◌<◌}
 use mathlib.Core.Path.{◌≡◌, refl, ap, sym, ◌∙◌, fun_ext}
+use mathlib.Core.List.Permᴰ
 use mathlib.Core.List.{List, [], ◌∷◌, map, append_assoc}
 use mathlib.Core.Logic.Iff
 use mathlib.Core.Logic.{◌⊎◌, inl, inr, ⊎_elim, ◌↔◌}
-use mathlib.Core.Bool.{Bool, true, false, not}
+use mathlib.Core.Bool.{Bool, true, not}
 use native.Mathlib.Omega.{arith}
-use native.Mathlib.Numerals.{one-add}
 use lib.ListN.{length, length-map}
 use lib.Seq.{take_all}
 use lib.Dec.{eqb}
-use borrow.Author.Tests.{ltb-true, lt-ltb, eqb-true, eqb-false, eq-eqb}
-use Rattle.sheet.specs.Lists.{pick, either, any, ◌∈◌, Once}
-use Rattle.sheet.specs.Cables.{Socket, socket_of, turned, is_at, carries, cabled}
+use borrow.Author.Tests.{ltb-true, lt-ltb, eqb-true, eq-eqb}
+use Rattle.std.proofs.lemmas.Bool.Decides.{nat_tests}
+use Rattle.sheet.specs.Lists.{any, ◌∈◌, Once}
+use Rattle.sheet.specs.Cables.{Socket, socket_of, turned, is_at, cabled}
 use Rattle.sheet.specs.Faults.{live}
 use Rattle.sheet.specs.Order.{seen_from, sorted, port_order, position_of, cable_of, is_cabled}
 use Rattle.sheet.specs.Sound.{Within, RowInRange, sockets, Sound, Seen}
 use Rattle.sheet.specs.Rising.{PortOrder}
 use Rattle.sheet.specs.declared.cables.Cable.{Cable}
-use Rattle.sheet.proofs.Lists.{both_true, true_both, either_swap, either_assoc, same_test, any_found, found_any, all_at, map_in}
+use Rattle.sheet.proofs.Lists.{both_true, true_both, either_swap, same_test, any_found, found_any, all_at, map_in}
 use Rattle.sheet.proofs.Lists.{once_same, once_finer, once_within, those, those_in, in_those, once_those}
-use Rattle.sheet.proofs.Permuted.{permuted_holds, permuted_once, permuted_map}
+use Rattle.sheet.proofs.Permuted.{permuted_holds, permuted_once}
 use Rattle.sheet.proofs.Ordering.{key_of, sorted_permuted, sorted_rising, rising_unique}
 
 abbrev pub port_of : Cable → ℕ
@@ -41,18 +42,12 @@ begins_at v c = eqb c.near.switch v
 -- ---- the rows read from both ends
 
 pub in_both_ways : (rows : List Cable) (c : Cable) → (c ∈ rows) ⊎ (turned c ∈ rows) → c ∈ both_ways rows
-in_both_ways [] c (inl at) = at
-in_both_ways [] c (inr at) = at
-in_both_ways (d ∷ rows) c (inl (inl e)) = inl e
-in_both_ways (d ∷ rows) c (inl (inr at)) = inr (inr (in_both_ways rows c (inl at)))
-in_both_ways (d ∷ rows) c (inr (inl e)) = inr (inl (ap turned e))
-in_both_ways (d ∷ rows) c (inr (inr at)) = inr (inr (in_both_ways rows c (inr at)))
+in_both_ways [] c at = grind arith
+in_both_ways (d ∷ rows) c at = grind (arith, in_both_ways rows c)
 
 pub both_ways_in : (rows : List Cable) (c : Cable) → c ∈ both_ways rows → (c ∈ rows) ⊎ (turned c ∈ rows)
 both_ways_in [] c at = inl at
-both_ways_in (d ∷ rows) c (inl e) = inl (inl e)
-both_ways_in (d ∷ rows) c (inr (inl e)) = inr (inl (ap turned e))
-both_ways_in (d ∷ rows) c (inr (inr at)) = ⊎_elim (λ there. inl (inr there)) (λ there. inr (inr there)) (both_ways_in rows c at)
+both_ways_in (d ∷ rows) c at = grind (arith, both_ways_in rows c)
 
 pub sockets_both : (rows : List Cable) → sockets rows ≡ map socket_at (both_ways rows)
 sockets_both [] = refl
@@ -66,9 +61,7 @@ seen_both v (c ∷ rows) = rw (append_assoc, seen_both v rows)
 cabled_both : (rows : List Cable) (v p : ℕ) → cabled rows v p ≡ any (λ c. is_at v p c.near) (both_ways rows)
 unfolding cabled
 cabled_both [] v p = refl
-cabled_both (c ∷ rows) v p =
-    either_assoc (is_at v p c.near) (is_at v p c.far) (any (carries v p) rows)
-    ∙ ap (λ rest. either (is_at v p c.near) (either (is_at v p c.far) rest)) (cabled_both rows v p)
+cabled_both (c ∷ rows) v p = grind (arith, cabled_both rows v p)
 
 -- ---- the cables seen from a switch
 
@@ -104,24 +97,12 @@ FoundAt p order i = (c : Cable) × (c ∈ order) × (port_of c ≡ p) × (cable_
 before_end_found : (p : ℕ) (order : List Cable) → position_of p order < length order → FoundAt p order (position_of p order)
 unfolding position_of
 before_end_found p [] h = absurd (omega arith)
-before_end_found p (c ∷ cs) h = go (eqb (port_of c) p) refl h (before_end_found p cs)
-  where
-    go : (b : Bool) → eqb (port_of c) p ≡ b → pick b 0 (1 + position_of p cs) < suc (length cs)
-        → (position_of p cs < length cs → FoundAt p cs (position_of p cs)) → FoundAt p (c ∷ cs) (pick b 0 (1 + position_of p cs))
-    go true e h' rest = (c, inl refl, eqb-true (port_of c) p e, refl)
-    go false e h' rest =
-        let (d, at, port, found) = rest (omega arith) in
-        (d, inr at, port, ap (λ i. cable_of i (c ∷ cs)) (one-add (position_of p cs)) ∙ found)
+before_end_found p (c ∷ cs) h = grind (arith, nat_tests, before_end_found p cs)
 
 in_before_end : (p : ℕ) (order : List Cable) (c : Cable) → c ∈ order → port_of c ≡ p → position_of p order < length order
 unfolding position_of
 in_before_end p [] c at port = absurd at
-in_before_end p (d ∷ ds) c at port = go (eqb (port_of d) p) refl (λ later. in_before_end p ds c later port)
-  where
-    go : (b : Bool) → eqb (port_of d) p ≡ b → (c ∈ ds → position_of p ds < length ds) → pick b 0 (1 + position_of p ds) < suc (length ds)
-    go true e rest = omega arith
-    go false e rest =
-        ⊎_elim (λ q. absurd (eqb-false (port_of d) p e (ap port_of (sym q) ∙ port))) (λ later. let h = rest later in omega arith) at
+in_before_end p (d ∷ ds) c at port = grind (arith, nat_tests, in_before_end p ds c)
 
 pub position_found : (p : ℕ) (order : List Cable) → is_cabled p order ≡ true → FoundAt p order (position_of p order)
 position_found p order t = before_end_found p order (ltb-true (position_of p order) (length order) t)
@@ -166,7 +147,7 @@ module _ {n : ℕ} {rows : List Cable} (sound : Sound n rows) where
   }
 
   sorted_ports : (v : ℕ) → Once (map port_of (sorted [] (seen_from v rows)))
-  sorted_ports v = permuted_once (permuted_map port_of (sorted_permuted (seen_from v rows))) (seen_ports v)
+  sorted_ports v = permuted_once (Permᴰ.map port_of (sorted_permuted (seen_from v rows))) (seen_ports v)
 
   -- different ports from 1 to 48: the order has at most 48 cables, and the cut takes none
   uncut : (v : ℕ) → port_order rows v ≡ sorted [] (seen_from v rows)

@@ -5,7 +5,6 @@ use mathlib.Core.Path.{◌≡◌, refl, ◌∙◌, ap}
 use mathlib.Core.List.{List}
 use mathlib.Core.Logic.Iff
 use mathlib.Core.Logic.{◌↔◌}
-use native.Mathlib.Omega.{arith}
 use lib.ListN.{length}
 use Rattle.sheet.specs.Records.{Reading, right, wrong}
 use Rattle.sheet.specs.Cables.{Socket, sheet_reading, switches_of}
@@ -38,34 +37,25 @@ module _ (s : List ℕ) where
       by_reading : sheet_answer s ≡ accepted n cables → (reading : Reading Cable) → sheet_reading s ≡ reading → AcceptedWith s n cables
       by_reading e (right rows) r =
           record { rows = rows; sheet = accepted_is s r; switches = cc (answer_of_lem r); counted = cc (answer_of_lem r) }
-      by_reading e (wrong rule start size) r = let z : ◌≡◌ {A = ℕ} 0 1 = cc (answer_of_lem r) in absurd (omega arith)
+      by_reading e (wrong rule start size) r = cc (answer_of_lem r)
 
   pub refused_exactly : (number : ℕ) → (sheet_answer s ≡ refused number) ↔ SheetRefusal s number
   refused_exactly number = (λ e. by_reading e (sheet_reading s) refl, λ h. refused_of (sheet_refused s h))
     where
       by_reading : sheet_answer s ≡ refused number → (reading : Reading Cable) → sheet_reading s ≡ reading → SheetRefusal s number
-      by_reading e (right rows) r = let z : ◌≡◌ {A = ℕ} 0 1 = cc (answer_of_lem r) in absurd (omega arith)
+      by_reading e (right rows) r = cc (answer_of_lem r)
       by_reading e (wrong rule start size) r =
           let same : number_of rule ≡ number = cc (answer_of_lem r) in
           rw same at (sheet_tells s r)
 
   pub refused_1 : (sheet_answer s ≡ refused 1) ↔ Refusal1 s
-  refused_1 = Iff.trans (refused_exactly 1) (only_1, by_form)
-    where
-      only_1 : SheetRefusal s 1 → Refusal1 s
-      only_1 (by_form h) = h
+  refused_1 = Iff.trans (refused_exactly 1) (λ h. elim h [ by_form p ↦ p ], by_form)
 
   pub refused_2 : (sheet_answer s ≡ refused 2) ↔ Refusal2 s
-  refused_2 = Iff.trans (refused_exactly 2) (only_2, by_count)
-    where
-      only_2 : SheetRefusal s 2 → Refusal2 s
-      only_2 (by_count h) = h
+  refused_2 = Iff.trans (refused_exactly 2) (λ h. elim h [ by_count p ↦ p ], by_count)
 
   pub refused_3 : (sheet_answer s ≡ refused 3) ↔ Refusal3 s
-  refused_3 = Iff.trans (refused_exactly 3) (only_3, by_row)
-    where
-      only_3 : SheetRefusal s 3 → Refusal3 s
-      only_3 (by_row h) = h
+  refused_3 = Iff.trans (refused_exactly 3) (λ h. elim h [ by_row p ↦ p ], by_row)
 
 module _ (s f : List ℕ) where
   list_of_sheet : {reading : Reading Cable} → sheet_reading s ≡ reading → list_answer s f ≡ list_answer_of (switches_of s) f reading
@@ -77,7 +67,7 @@ module _ (s f : List ℕ) where
   refused_sheet {number} e = by_reading (sheet_reading s) refl
     where
       by_reading : (reading : Reading Cable) → sheet_reading s ≡ reading → list_answer s f ≡ refused number
-      by_reading (right rows) r = let z : ◌≡◌ {A = ℕ} 0 1 = cc (answer_of_lem s r) in absurd (omega arith)
+      by_reading (right rows) r = cc (answer_of_lem s r)
       by_reading (wrong rule start size) r = cc (answer_of_lem s r, list_of_sheet r)
 
   -- after an accepted sheet, the list does
@@ -94,7 +84,7 @@ module _ (s f : List ℕ) where
       where
         by_reading : list_answer s f ≡ refused number → (reading : Reading Socket) → fault_reading rows f ≡ reading
             → ListRefusal rows f number
-        by_reading e (right faults) r = let z : ◌≡◌ {A = ℕ} 0 1 = cc (list_of r) in absurd (omega arith)
+        by_reading e (right faults) r = cc (list_of r)
         by_reading e (wrong rule start size) r =
             let same : number_of rule ≡ number = cc (list_of r) in
             rw same at (fault_tells rows f r)
@@ -137,8 +127,8 @@ module _ (s f : List ℕ) where
             faults = faults;
             right = fault_tells rows f r;
           }
-      by_faults rows sheet e (wrong rule start size) r = let z : ◌≡◌ {A = ℕ} 0 1 = cc (list_of rows sheet r) in absurd (omega arith)
+      by_faults rows sheet e (wrong rule start size) r = cc (list_of rows sheet r)
 
       by_sheet : list_answer s f ≡ accepted n cables → (reading : Reading Cable) → sheet_reading s ≡ reading → BothAccepted s f n cables
       by_sheet e (right rows) r = by_faults rows (accepted_is s r) e (fault_reading rows f) refl
-      by_sheet e (wrong rule start size) r = let z : ◌≡◌ {A = ℕ} 0 1 = cc (list_of_sheet r) in absurd (omega arith)
+      by_sheet e (wrong rule start size) r = cc (list_of_sheet r)

@@ -1,54 +1,36 @@
 -- The walk over a fault list for one cable: a fault that names neither end leaves the question to the faults after it.
-use Prim.Native.Nat.{ℕ, zero, suc, ◌≤◌}
-use mathlib.Core.Path.{◌≡◌, refl, ap, sym, ◌∙◌}
-use mathlib.Core.List.{List, []}
-use mathlib.Core.Bool.{Bool, true, false}
+use Prim.Native.Nat.{ℕ, suc, ◌<◌}
+use mathlib.Core.Path.{◌≡◌, ap, sym, subst}
+use mathlib.Core.List.{List, ◌∷◌, map}
+use mathlib.Core.Bool.{false}
 use native.Mathlib.Omega.{arith}
-use Rattle.sheet.specs.Records.{record_at, wholes, fault}
+use lib.ListN.{length}
+use Rattle.std.specs.List.{All}
+use Rattle.sheet.specs.Records.{wholes, fault}
 use Rattle.sheet.specs.Cables.{carries}
 use Rattle.sheet.specs.Faults.{fault_at, faults_of, live}
+use Rattle.sheet.specs.Order.{start_at}
 use Rattle.sheet.specs.declared.cables.Cable.{Cable}
-use Rattle.sheet.specs.declared.records.Found.{Found}
-use Rattle.sheet.specs.declared.records.Found.TheVariants.{Record}
-use Rattle.sheet.proofs.Scan.{Stops, wholes_none, wholes_next, wholes_stop}
+use Rattle.sheet.proofs.Scan.{wholes_read, wholes_inside}
 
--- the fault at a position names an end of the cable
-abbrev pub names : List ℕ → ℕ → Cable → Bool
-names s at c = carries (fault_at s at).switch (fault_at s at).port c
+-- the answer is that of the faults whose positions are left, all inside the bytes
+pub record Asks (s : List ℕ) (c : Cable) (left : List ℕ) : Type 0 where
+  pub same : live (faults_of s) c ≡ live (map (fault_at s) left) c
+  pub inside : All (λ start. start < length s) left
 
--- the answer is that of the faults from a position on, at most `room`
-pub record Asks (s : List ℕ) (c : Cable) (room at : ℕ) : Type 0 where
-  pub same : live (faults_of s) c ≡ live (wholes fault fault_at room s at) c
-
-pub asks_all : (s : List ℕ) (c : Cable) → Asks s c 512 0
+-- before the first fault
+pub asks_all : {s : List ℕ} {c : Cable} {first starts : List ℕ} → first ≡ wholes fault start_at 512 s 0 → starts ≡ first → Asks s c starts
 unfolding faults_of
-asks_all s c = record { same = refl }
+asks_all {s} {c} e p = rw (p, e) (record {
+  same = ap (λ faults. live faults c) (sym (wholes_read fault fault_at s 512 0));
+  inside = wholes_inside fault s 512 0;
+})
 
-module _ {s : List ℕ} {c : Cable} where
-  -- no faults are left
-  none_left : {room at : ℕ} → Asks s c room at → wholes fault fault_at room s at ≡ [] → true ≡ live (faults_of s) c
-  unfolding live
-  none_left asks none = sym (asks.same ∙ ap (λ faults. live faults c) none)
-
-  pub live_stop : {room at : ℕ} {found : Found} → Asks s c room at → Stops found → record_at fault s at ≡ found → true ≡ live (faults_of s) c
-  live_stop {room} {at} {found} asks stops e = none_left asks (wholes_stop fault fault_at s room at found stops e)
-
-  pub live_full : {room at : ℕ} → Asks s c room at → room ≤ 0 → true ≡ live (faults_of s) c
-  live_full {room = zero} {at} asks none = none_left asks (wholes_none fault fault_at s at)
-  live_full {room = suc room} asks none = absurd (omega arith)
-
-  pub live_named : (room : ℕ) {rooms at next : ℕ} → rooms ≡ suc room → Asks s c rooms at → record_at fault s at ≡ Record next
-      → names s at c ≡ true → false ≡ live (faults_of s) c
-  unfolding live
-  live_named room {at = at} {next = next} one asks e named =
-      sym (asks.same ∙ ap (λ k. live (wholes fault fault_at k s at) c) one
-      ∙ ap (λ faults. live faults c) (wholes_next fault fault_at s room at next e) ∙ rw named)
-
-  pub asks_next : (room : ℕ) {rooms at next : ℕ} → rooms ≡ suc room → Asks s c rooms at → record_at fault s at ≡ Record next
-      → names s at c ≡ false → Asks s c room next
-  unfolding live
-  asks_next room {at = at} {next = next} one asks e named = record {
-    same =
-        asks.same ∙ ap (λ k. live (wholes fault fault_at k s at) c) one
-        ∙ ap (λ faults. live faults c) (wholes_next fault fault_at s room at next e) ∙ rw named;
-  }
+-- a fault that names neither end
+pub asks_next : {s : List ℕ} {c : Cable} {starts left : List ℕ} {at : ℕ} → Asks s c starts → starts ≡ at ∷ left
+    → carries (fault_at s at).switch (fault_at s at).port c ≡ false → Asks s c left
+unfolding live
+asks_next {s} asks next by = record {
+  same = grind arith;
+  inside = λ k d below. (subst (All (λ start. start < length s)) next asks.inside) (suc k) d (omega (arith, below));
+}

@@ -2,7 +2,6 @@ pub mod Lists
 pub mod Permuted
 pub mod Tests
 pub mod Bytes
-pub mod Ends
 pub mod Scan
 pub mod Sizing
 pub mod Right
@@ -13,7 +12,6 @@ pub mod Accepted
 pub mod Exactly
 pub mod Through
 pub mod Listed
-pub mod Telling
 pub mod Parts
 pub mod Marking
 pub mod Ordering

@@ -27,6 +27,12 @@ module _ (s f : List ℕ) where
   in_sheet (right rows) e = in_faults rows (fault_reading rows f) refl
   in_sheet (wrong rule start size) e = sheet_inside s e
 
-  pub part_inside : {part : Part} → part ≡ faulty_part s f → Inside s f part
+  part_inside : {part : Part} → part ≡ faulty_part s f → Inside s f part
   unfolding faulty_part
   part_inside e = rw e (in_sheet (sheet_reading s) refl)
+
+  pub inside_sheet : {start size : ℕ} → OfSheet start size ≡ faulty_part s f → start + size ≤ length s
+  inside_sheet e = part_inside e
+
+  pub inside_faults : {start size : ℕ} → OfFaults start size ≡ faulty_part s f → start + size ≤ length f
+  inside_faults e = part_inside e

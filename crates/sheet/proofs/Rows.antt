@@ -4,7 +4,7 @@ use Prim.Native.Nat.{ℕ}
 use mathlib.Core.Path.{◌≡◌, refl, sym, subst}
 use mathlib.Core.List.{List, [], ◌∷◌}
 use mathlib.Core.Logic.Iff
-use mathlib.Core.Logic.{◌⊎◌, inl, inr, ⊎_elim, ◌↔◌}
+use mathlib.Core.Logic.{inl, inr, ⊎_elim, ⊎_map, ◌↔◌}
 use lib.Dec.{leb, eqb}
 use Rattle.sheet.specs.Lists.{◌∈◌}
 use Rattle.sheet.specs.Records.{row, fault}
@@ -42,17 +42,7 @@ cabled_socket (c ∷ rows) v p =
     (decides-⊎ (carries v p c) (cabled rows v p)
     (decides-⊎ (is_at v p c.near) (is_at v p c.far) (decides_is_at v p c.near) (decides_is_at v p c.far))
     (cabled_socket rows v p))
-    (regroup, regroup_back)
-  where
-    regroup : {P Q R : Type 0} → (P ⊎ Q) ⊎ R → P ⊎ (Q ⊎ R)
-    regroup (inl (inl p)) = inl p
-    regroup (inl (inr q)) = inr (inl q)
-    regroup (inr r) = inr (inr r)
-
-    regroup_back : {P Q R : Type 0} → P ⊎ (Q ⊎ R) → (P ⊎ Q) ⊎ R
-    regroup_back (inl p) = inl (inl p)
-    regroup_back (inr (inl q)) = inl (inr q)
-    regroup_back (inr (inr r)) = inr r
+    (⊎_elim (⊎_map (λ p. p) inl) (λ r. inr (inr r)), ⊎_elim (λ p. inl (inl p)) (⊎_map inr (λ r. r)))
 
 pub decides_within : (most k : ℕ) → Decides (within most k) (Within most k)
 decides_within most k = decides-× (leb 1 k) (leb k most) (decides-≤ 1 k) (decides-≤ k most)

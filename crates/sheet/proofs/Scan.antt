@@ -1,20 +1,20 @@
 -- The walker and the scan as laws, so that no other file opens `record_at`, `scan` or `wholes`. The walker's answer is exactly what stands
 -- at the position, since each of its tests decides one field; a scan is a chain of steps, each named by what the walker finds.
 use Prim.Native.Nat.{ℕ, zero, suc, ◌+◌, ◌-◌, ◌≤◌, ◌<◌}
-use mathlib.Core.Path.{◌≡◌, refl, ap, sym, subst}
+use mathlib.Core.Path.{◌≡◌, refl, sym, subst}
 use mathlib.Core.List.{List, [], ◌∷◌, ◌++◌, map, append_assoc, append-nil}
-use mathlib.Core.Bool.{Bool, true, false}
+use mathlib.Core.Logic.{inl, inr}
 use native.Mathlib.Omega.{arith}
 use lib.ListN.{length}
-use lib.Dec.{leb, eqb}
-use borrow.Author.Tests.{leb-true, leb-false, eqb-true, eqb-false, le-leb, lt-leb, eq-eqb, ne_eqb}
+use borrow.Author.Tests.{le-leb, lt-leb, eq-eqb, ne_eqb}
+use Rattle.std.proofs.lemmas.Bool.{cases_lt, cases_eq}
 use Rattle.sheet.specs.Records.{record_at, Reading, right, wrong, scan, go_on, wholes}
 use Rattle.sheet.specs.Standing.{form_at, Whole, OtherKind, Cut}
 use Rattle.sheet.specs.declared.records.Place.{Place}
 use Rattle.sheet.specs.declared.records.Found.{Found}
 use Rattle.sheet.specs.declared.records.Found.TheVariants.{Record, WrongKind, CutShort, Ended}
 use Rattle.sheet.specs.declared.rules.Rule.{Rule}
-use Rattle.std.specs.Prelude.{Result, Ok, Err}
+use Rattle.std.specs.Prelude.{All, Result, Ok, Err}
 
 -- what each answer of the walker says
 abbrev pub Standing : Place → List ℕ → ℕ → Found → Type 0
@@ -53,31 +53,23 @@ module _ (place : Place) (s : List ℕ) (at : ℕ) where
 
   -- each of the three tests decides one field
   found_so : Standing place s at (record_at place s at)
-  found_so = by_end (leb (length s) at) refl
-    where
-      by_body : at < length s → (form_at s at).place.0 ≡ place.0 → (b : Bool) → leb (form_at s at).body (length s - at - 1) ≡ b
-          → Standing place s at (record_at place s at)
-      by_body i k true e =
-          let enough : (form_at s at).body ≤ length s - at - 1 = leb-true _ _ e in
-          let next = at + 1 + (form_at s at).body in
-          let whole : Whole place s at next = record { inside = i; stands = k; next_is = refl; fits = omega arith } in
-          rw (record_whole whole) whole
-      by_body i k false e =
-          let lack : length s - at - 1 < (form_at s at).body = leb-false _ _ e in
-          let short : Cut place s at = record { inside = i; stands = k; short = omega arith } in
-          rw (record_cut short) short
-
-      by_kind : at < length s → (b : Bool) → eqb (form_at s at).place.0 place.0 ≡ b → Standing place s at (record_at place s at)
-      by_kind i true e = by_body i (eqb-true _ _ e) (leb (form_at s at).body (length s - at - 1)) refl
-      by_kind i false e =
-          let other : OtherKind place s at = record { inside = i; stands_not = eqb-false _ _ e } in
+  found_so = elim (cases_lt at (length s)) [
+    | inr over ↦ rw (record_ended over) over
+    | inl inside ↦ elim (cases_eq (form_at s at).place.0 place.0) [
+      | inr not ↦
+          let other : OtherKind place s at = record { inside = inside; stands_not = not } in
           rw (record_kind other) other
-
-      by_end : (b : Bool) → leb (length s) at ≡ b → Standing place s at (record_at place s at)
-      by_end true e =
-          let over : length s ≤ at = leb-true _ _ e in
-          rw (record_ended over) over
-      by_end false e = by_kind (leb-false _ _ e) (eqb (form_at s at).place.0 place.0) refl
+      | inl stands ↦ elim (cases_lt (length s) (at + 1 + (form_at s at).body)) [
+        | inl lack ↦
+            let short : Cut place s at = record { inside = inside; stands = stands; short = lack } in
+            rw (record_cut short) short
+        | inr fits ↦
+            let whole : Whole place s at (at + 1 + (form_at s at).body) =
+            record { inside = inside; stands = stands; next_is = refl; fits = fits } in
+            rw (record_whole whole) whole
+      ]
+    ]
+  ]
 
   -- the walker's answer, read backwards
   pub found_is : {found : Found} → record_at place s at ≡ found → Standing place s at found
@@ -172,6 +164,22 @@ Stops WrongKind = Unit {0}
 Stops CutShort = Unit {0}
 Stops Ended = Unit {0}
 
+module _ (place : Place) (s : List ℕ) where
+  -- each of their positions is inside
+  pub wholes_inside : (room at : ℕ) → All (λ start. start < length s) (wholes place (λ t start. start) room s at)
+  unfolding wholes
+  wholes_inside zero at k d below = absurd (omega (arith, below))
+  wholes_inside (suc room) at k d below = go (record_at place s at) refl (λ next. wholes_inside room next) k d below
+    where
+      go : (found : Found) → record_at place s at ≡ found
+          → ((next : ℕ) → All (λ start. start < length s) (wholes place (λ t start. start) room s next))
+          → All (λ start. start < length s) (go_on found (λ next. at ∷ wholes place (λ t start. start) room s next))
+      go (Record next) e rest zero d below = (found_is place s at e).inside
+      go (Record next) e rest (suc k) d below = rest next k d (omega (arith, below))
+      go WrongKind e rest k d below = absurd (omega (arith, below))
+      go CutShort e rest k d below = absurd (omega (arith, below))
+      go Ended e rest k d below = absurd (omega (arith, below))
+
 module _ {A : Type 0} (place : Place) (read : List ℕ → ℕ → A) (s : List ℕ) where
   pub wholes_none : (at : ℕ) → wholes place read zero s at ≡ []
   unfolding wholes
@@ -185,24 +193,13 @@ module _ {A : Type 0} (place : Place) (read : List ℕ → ℕ → A) (s : List 
   pub wholes_stop : (room at : ℕ) (found : Found) → Stops found → record_at place s at ≡ found → wholes place read room s at ≡ []
   unfolding wholes
   wholes_stop zero at found other e = refl
-  wholes_stop (suc room) at (Record next) other e = absurd other
-  wholes_stop (suc room) at WrongKind other e = rw e
-  wholes_stop (suc room) at CutShort other e = rw e
-  wholes_stop (suc room) at Ended other e = rw e
+  wholes_stop (suc room) at found other e = grind arith
 
   -- to read the records is to read at the position of each
   pub wholes_read : (room at : ℕ) → map (read s) (wholes place (λ t start. start) room s at) ≡ wholes place read room s at
   unfolding wholes
   wholes_read zero at = refl
-  wholes_read (suc room) at = go (record_at place s at) (λ next. wholes_read room next)
-    where
-      go : (found : Found) → ((next : ℕ) → map (read s) (wholes place (λ t start. start) room s next) ≡ wholes place read room s next)
-          → map (read s) (go_on found (λ next. at ∷ wholes place (λ t start. start) room s next))
-          ≡ go_on found (λ next. read s at ∷ wholes place read room s next)
-      go (Record next) rest = ap {B = List A} (λ records. read s at ∷ records) (rest next)
-      go WrongKind rest = refl
-      go CutShort rest = refl
-      go Ended rest = refl
+  wholes_read (suc room) at = grind (arith, wholes_read room)
 
 module _ {A : Type 0} (place : Place) (broken : Rule) (read : List ℕ → ℕ → A) (check : List A → A → Result (Unit {0}) Rule) (s : List ℕ) where
   -- a scan that finds nothing wrong has read every whole record

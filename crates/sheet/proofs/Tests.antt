@@ -2,7 +2,7 @@
 -- whatever is found wrong has one refusal number.
 use Prim.Native.Nat.{ℕ, ◌≤◌}
 use mathlib.Core.Path.{◌≡◌, refl}
-use mathlib.Core.Logic.{◌⊎◌, inl, inr, ◌↔◌}
+use mathlib.Core.Logic.{◌⊎◌, ◌↔◌}
 use mathlib.Core.Bool.{Bool, true, false}
 use native.Mathlib.Omega.{arith}
 use lib.Dec.{leb, eqb}
@@ -10,6 +10,7 @@ use borrow.Author.Tests.{leb-true, le-leb, eqb-true, eq-eqb}
 use Rattle.sheet.specs.Lists.{pick, both, either}
 use Rattle.sheet.specs.Refusals.{number_of}
 use Rattle.sheet.specs.declared.rules.Rule.{Rule}
+use Rattle.std.proofs.lemmas.Bool.{false_from_ne_true}
 use Rattle.std.specs.Prelude.{Result, Ok, Err}
 
 -- the test passes exactly if P holds
@@ -17,11 +18,10 @@ abbrev pub Decides : Bool → Type 0 → Type 0
 Decides test P = (test ≡ true) ↔ P
 
 pub true≢false : {b : Bool} → b ≡ true → b ≡ false → ⊥
-true≢false p q = let z : ◌≡◌ {A = ℕ} 0 1 = cc in omega arith
+true≢false p q = cc
 
 pub fails : {P : Type 0} (test : Bool) → Decides test P → (P → ⊥) → test ≡ false
-fails true decides never = absurd (never (decides.0 refl))
-fails false decides never = refl
+fails test decides never = false_from_ne_true test (λ t. never (decides.0 t))
 
 pub decides-≤ : (a b : ℕ) → Decides (leb a b) (a ≤ b)
 decides-≤ a b = (leb-true a b, le-leb a b)
@@ -30,12 +30,10 @@ pub decides-≡ : (a b : ℕ) → Decides (eqb a b) (a ≡ b)
 decides-≡ a b = (eqb-true a b, eq-eqb a b)
 
 pub decides-× : {P Q : Type 0} (a b : Bool) → Decides a P → Decides b Q → Decides (both a b) (P × Q)
-decides-× true b d e = (λ t. (d.0 refl, e.0 t), λ h. e.1 h.1)
-decides-× false b d e = (λ t. absurd (true≢false t refl), λ h. d.1 h.0)
+decides-× a b d e = (grind arith, grind arith)
 
 pub decides-⊎ : {P Q : Type 0} (a b : Bool) → Decides a P → Decides b Q → Decides (either a b) (P ⊎ Q)
-decides-⊎ true b d e = (λ t. inl (d.0 refl), λ h. refl)
-decides-⊎ false b d e = (λ t. inr (e.0 t), λ h. elim h [ inl p ↦ absurd (true≢false (d.1 p) refl) | inr q ↦ e.1 q ])
+decides-⊎ a b d e = (grind arith, grind arith)
 
 -- a verdict on whether P holds; its rule breaks have one refusal number
 pub data Judges (number : ℕ) (P : Type 0) : Result (Unit {0}) Rule → Type 0 where
@@ -56,16 +54,8 @@ module _ {number : ℕ} {P T : Type 0} (test : Bool) (rest : Result (Unit {0}) R
     (decides : Decides test T) where
   -- a test that a right record passes
   pub judges_pass : (P → T) → (T → Judges number P rest) → Judges number P (pick test rest (Err rule))
-  judges_pass needs then = go test refl
-    where
-      go : (b : Bool) → test ≡ b → Judges number P (pick b rest (Err rule))
-      go true e = then (decides.0 e)
-      go false e = disobeyed numbered (λ p. true≢false (decides.1 (needs p)) e)
+  judges_pass needs then = grind (arith, then, decides, λ (n : P → ⊥). disobeyed {rule = rule} numbered n)
 
   -- a test that a right record fails
   pub judges_fail : (P → T → ⊥) → ((T → ⊥) → Judges number P rest) → Judges number P (pick test (Err rule) rest)
-  judges_fail shuns then = go test refl
-    where
-      go : (b : Bool) → test ≡ b → Judges number P (pick b (Err rule) rest)
-      go true e = disobeyed numbered (λ p. shuns p (decides.0 e))
-      go false e = then (λ t. true≢false (decides.1 t) e)
+  judges_fail shuns then = grind (arith, then, decides, λ (n : P → ⊥). disobeyed {rule = rule} numbered n)

@@ -5,8 +5,8 @@ ghost use Rattle.sheet.specs.Cables.{turned, is_at, carries, end_at, cable_at};
 use crate::numbers::{Port, Switch};
 use crate::records::byte_at;
 
-// One end of a cable.
-#[derive(Clone, Copy, Debug, PartialEq, Eq)]
+// One end of a cable. By default that of no cable, all 0.
+#[derive(Clone, Copy, Debug, Default, PartialEq, Eq)]
 pub struct End {
     pub switch: u8,
     pub port: u8,
@@ -14,13 +14,13 @@ pub struct End {
 }
 
 // A cable, written from one of its ends.
-#[derive(Clone, Copy, Debug, PartialEq, Eq)]
+#[derive(Clone, Copy, Debug, Default, PartialEq, Eq)]
 pub struct Cable {
     pub near: End,
     pub far: End,
 }
 
-// A switch and a port go side by side through three private functions: a struct for them would be made at each call, of two bytes.
+// A switch and a port go side by side through `is_at`, `carries` and `is_used` of the rows: a struct for them would be made at each call.
 impl End {
     pub(crate) fn is_at(self, v: Switch, p: Port) -> bool
         ensures { result ≡ is_at v.0 p.0 self }
@@ -48,15 +48,12 @@ impl Cable {
     }
 }
 
+// Past the end of the bytes it is no end, and below no cable, and no None: as `byte_at` they answer at every position.
 pub(crate) fn end_at(bytes: &[u8], at: usize) -> End
     ensures { result ≡ end_at bytes.now at }
 {
     if bytes.len() <= at {
-        return End {
-            switch: 0,
-            port: 0,
-            preference: 0,
-        };
+        return End::default();
     }
     End {
         switch: byte_at(bytes, at),
@@ -70,11 +67,7 @@ pub(crate) fn cable_at(bytes: &[u8], at: usize) -> Cable
     ensures { result ≡ cable_at bytes.now at }
 {
     if bytes.len() <= at {
-        let none = end_at(bytes, at);
-        return Cable {
-            near: none,
-            far: none,
-        };
+        return Cable::default();
     }
     Cable {
         near: end_at(bytes, at + 1),

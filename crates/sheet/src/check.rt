@@ -16,17 +16,18 @@ pub struct Accepted {
     pub cables: u64,
 }
 
-// What an accepted sheet's check answers.
+// What an accepted sheet's check answers. The count is cast: between usize and u64 there is no `From`, and both have 64 bits.
 fn accept(sheet: &[u8], cables: usize) -> Accepted
     ensures switches { result.switches ≡ switches_of sheet.now }
     ensures cables { result.cables ≡ cables }
 {
     Accepted {
-        switches: byte_at(sheet, 1) as u64,
+        switches: byte_at(sheet, 1).into(),
         cables: cables as u64,
     }
 }
 
+#[tactic(auto, unfolding(crate::specs::Refusals::sheet_answer))]
 pub fn check_sheet(sheet: &[u8]) -> Result<Accepted, Refusal>
     ensures { answer_of result ≡ sheet_answer sheet.now }
 {
@@ -35,7 +36,8 @@ pub fn check_sheet(sheet: &[u8]) -> Result<Accepted, Refusal>
     Ok(accept(sheet, rows.count))
 }
 
-// Where the first wrong record stands: its start and its length. The empty part at the sheet's front where nothing is wrong.
+// Where the first wrong record stands: its start and its length, two numbers, as a slice and `pack` take them. Where nothing is wrong it is
+// the empty part at the sheet's front, and no None: the outline says so.
 #[derive(Clone, Copy, Debug, PartialEq, Eq)]
 pub enum Part {
     OfSheet(usize, usize),
@@ -51,6 +53,7 @@ pub struct Lists<'a> {
 
 impl<'a> Lists<'a> {
     // The sheet, then the fault list against it. The outline wants `let .. else` for each check, and no `?`.
+    #[tactic(auto, unfolding(crate::specs::Refusals::list_answer))]
     pub fn check_faults(&self) -> Result<Accepted, Refusal>
         ensures { answer_of result ≡ list_answer self.now.sheet.now self.now.faults.now }
     {
@@ -66,6 +69,9 @@ impl<'a> Lists<'a> {
         Ok(accept(self.sheet, rows.count))
     }
 
+    // The two readings of `check_faults`, told by place and not by number. One function for both would answer which list was wrong and
+    // where, and each would take that apart again.
+    #[tactic(auto, unfolding(crate::specs::FaultyRow::faulty_part))]
     pub fn faulty_part(&self) -> Part
         ensures { result ≡ faulty_part self.now.sheet.now self.now.faults.now }
     {
@@ -80,6 +86,7 @@ impl<'a> Lists<'a> {
     }
 
     // The first wrong record as it stands in the caller's bytes.
+    #[tactic(auto, using(crate::proofs::Parts::inside_sheet, crate::proofs::Parts::inside_faults))]
     pub fn faulty_row(&self) -> &'a [u8]
         ensures { IsPart self.now.sheet self.now.faults (faulty_part self.now.sheet.now self.now.faults.now) result }
     {

@@ -4,8 +4,8 @@ ghost use Rattle.sheet.specs.FaultyRow.{packed, part_number, faulty_part};
 
 use crate::check::{Lists, Part};
 
-// The list is 0 or 1, as C wants it. The largest number where a start or a length does not fit, which never comes: the first wrong record
-// stands among the first 513.
+// The list is 0 or 1, as C wants it; start and length are cast where they are seen to be small. The largest number where a start or a
+// length does not fit, which never comes: the first wrong record stands among the first 513.
 fn pack(list: u64, start: usize, size: usize) -> u64
     requires { list ≤ 1 }
     ensures { result ≡ packed list start size }

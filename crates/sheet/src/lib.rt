@@ -13,4 +13,5 @@ mod reading;
 pub mod records;
 pub mod refusals;
 pub mod rules;
+mod starts;
 mod used;

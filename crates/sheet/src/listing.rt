@@ -69,6 +69,7 @@ pub trait RecordList {
 }
 
 // Where the record after this one begins; none at the end of the bytes. A record that is wrong by its form breaks this rule.
+#[tactic(auto, unfolding(crate::specs::Records::record_at))]
 pub fn next_record(
     bytes: &[u8],
     start: usize,
@@ -87,6 +88,7 @@ pub fn next_record(
 }
 
 // Takes in every record, or stops at the first wrong one.
+#[tactic(auto, using(crate::proofs::Listed::turns))]
 pub fn read_list<L: RecordList>(list: &mut L) -> Result<(), Wrong>
     requires { L.taken list.old ≡ 0 }
     ensures told { let records = wholes L.layout.place L.read (L.taken list.new) (L.bytes list.old) L.layout.from in

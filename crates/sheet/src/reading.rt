@@ -1,5 +1,5 @@
 // The sheet and the fault list, read from the front, record by record.
-ghost use Rattle.std.specs.Prelude.{◌≡◌, ℕ, ◌≤◌, length, IfOk};
+ghost use Rattle.std.specs.Prelude.{◌≡◌, length, IfOk};
 ghost use Rattle.sheet.specs.Records.{row, fault};
 ghost use Rattle.sheet.specs.Cables.{Socket, row_rule, cable_at, sheet_reading};
 ghost use Rattle.sheet.specs.Faults.{fault_at, fault_rule, fault_reading};
@@ -9,8 +9,8 @@ ghost use Rattle.sheet.specs.declared.cables.Cable.{Cable as Row};
 ghost use Rattle.sheet.specs.declared.rules.Rule.TheVariants.{SheetForm, FaultForm};
 
 use crate::cables::{Cable, cable_at};
+use crate::faults::fault_at;
 use crate::listing::{Layout, RecordList, Wrong, next_record, read_list};
-use crate::numbers::{Port, Switch};
 use crate::ranges::{are_within, is_within};
 use crate::records::{FAULT, FORMS, FRONT, MOST_RECORDS, ROW, byte_at};
 use crate::rules::Rule;
@@ -32,13 +32,14 @@ const FAULTS: Layout = Layout {
 };
 
 // A row held to the rules and to the rows before it.
+#[tactic(auto, unfolding(crate::specs::Cables::row_rule))]
 fn judge_row(c: Cable, rows: &Rows) -> Result<(), Rule>
     ensures { result ≡ row_rule rows.now.switches (first_rows rows.now.sheet.now rows.now.count) c }
 {
-    if !are_within(rows.switches, c.near.switch as u64, c.far.switch as u64) {
+    if !are_within(rows.switches, c.near.switch.into(), c.far.switch.into()) {
         return Err(Rule::SwitchRange);
     }
-    if !are_within(48, c.near.port as u64, c.far.port as u64) {
+    if !are_within(48, c.near.port.into(), c.far.port.into()) {
         return Err(Rule::PortRange);
     }
     if c.near.switch == c.far.switch {
@@ -71,6 +72,7 @@ impl<'a> RecordList for Rows<'a> {
         self.sheet
     }
 
+    #[tactic(auto, using(crate::proofs::Rows::row_fine))]
     fn take(&mut self, start: usize) -> Result<(), Rule> {
         let c = cable_at(self.sheet, start);
         judge_row(c, self)?;
@@ -108,9 +110,9 @@ impl<'a> RecordList for Faults<'a> {
         self.faults
     }
 
+    #[tactic(auto, unfolding(crate::specs::Faults::fault_rule))]
     fn take(&mut self, start: usize) -> Result<(), Rule> {
-        let v = Switch::from(byte_at(self.faults, start + 1));
-        let p = Port::from(byte_at(self.faults, start + 2));
+        let (v, p) = fault_at(self.faults, start);
         if !self.rows.is_used(v, p) {
             return Err(Rule::FaultUncabled);
         }
@@ -120,6 +122,7 @@ impl<'a> RecordList for Faults<'a> {
 }
 
 // The sheet: its front, then the cable rows. The rows are lent and not returned, since a table that moves stands on the stack twice.
+#[tactic(auto, using(crate::proofs::Listed::front_size), unfolding(crate::specs::Cables::sheet_reading))]
 pub fn read_sheet(rows: &mut Rows) -> Result<(), Wrong>
     requires { rows.old.count ≡ 0 }
     ensures told { reading_of (λ _. first_rows rows.new.sheet.now rows.new.count) result ≡ sheet_reading rows.old.sheet.now }
@@ -132,7 +135,7 @@ pub fn read_sheet(rows: &mut Rows) -> Result<(), Wrong>
             size: 0,
         });
     };
-    let n = byte_at(rows.sheet, 1) as u64;
+    let n = u64::from(byte_at(rows.sheet, 1));
     if !is_within(64, n) {
         return Err(Wrong {
             rule: Rule::SwitchCount,
@@ -145,6 +148,7 @@ pub fn read_sheet(rows: &mut Rows) -> Result<(), Wrong>
 }
 
 // The fault list, held to the ports that the sheet's rows use.
+#[tactic(auto, unfolding(crate::specs::Faults::fault_reading))]
 pub fn read_faults(faults: &[u8], rows: &Rows) -> Result<usize, Wrong>
     ensures { result ≡ told_of (fault_reading (first_rows rows.now.sheet.now rows.now.count) faults.now) }
 {

@@ -69,15 +69,16 @@ pub enum Found {
     Ended,
 }
 
-// The byte at a position, 0 past the end. Bytes and a position are two parameters wherever the format is read, since positions are what the
-// definitions speak of.
+// The byte at a position, 0 past the end and no None, so that no reader asks anything of its caller. Bytes and a position are two
+// parameters wherever the format is read, since positions are what the definitions speak of.
 pub fn byte_at(bytes: &[u8], at: usize) -> u8
     ensures { result ≡ get_or bytes.now at 0 }
 {
-    if at < bytes.len() { bytes[at] } else { 0 }
+    bytes.get(at).copied().unwrap_or(0)
 }
 
 // Each entry is read at a fixed index: an index that is computed would have the whole table copied to the stack at every record.
+#[tactic(auto, unfolding(crate::specs::Records::form_of))]
 pub(crate) fn form_of(kind: u8) -> Form
     ensures { result ≡ form_of kind }
 {
@@ -91,6 +92,7 @@ pub(crate) fn form_of(kind: u8) -> Form
 }
 
 // The record walker: what stands at a position, for one place of the format.
+#[tactic(auto, unfolding(crate::specs::Records::record_at))]
 pub fn record_at(bytes: &[u8], at: usize, place: Place) -> Found
     ensures { result ≡ record_at place bytes.now at }
 {

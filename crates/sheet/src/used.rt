@@ -1,5 +1,5 @@
 // The rows of a sheet that were read, and the ports that they use.
-ghost use Rattle.std.specs.Prelude.{◌≡◌, ◌∷◌, [], ◌++◌, ℕ, ◌+◌, ◌≤◌, ◌<◌, eqb, length, replicate};
+ghost use Rattle.std.specs.Prelude.{◌≡◌, ◌∷◌, [], ◌++◌, ℕ, ◌+◌, ◌≤◌, ◌<◌, length, replicate};
 ghost use Rattle.sheet.specs.Lists.{either};
 ghost use Rattle.sheet.specs.Sound.{EndInRange};
 ghost use Rattle.sheet.specs.Cables.{cabled, is_at};
@@ -9,9 +9,9 @@ use crate::cables::{Cable, End};
 use crate::numbers::{Port, Switch};
 use crate::ranges::is_within;
 
-// The first `count` rows of a sheet of so many switches, 0 until its front is read. Which ports they use is kept as a number for each
-// switch, in which bit p stands for port p: 512 bytes serve all switches. Contracts say the rows by `first_rows` of sheet and count: a
-// Model would have to hold the switches and the count besides.
+// The first `count` rows of a sheet of so many switches, 0 until its front is read: no Option, since no rule asks it before. Which ports
+// they use is kept as a number for each switch, in which bit p stands for port p: 512 bytes serve all switches. Contracts say the rows by
+// `first_rows` of sheet and count: a Model would have to hold the switches and the count besides.
 #[derive(Drop)]
 pub struct Rows<'a> {
     pub sheet: &'a [u8],
@@ -30,16 +30,18 @@ fn no_port_used() -> [u64; 64]
 }
 
 // The port of an end within the ranges is used from now on.
+#[tactic(auto, using(crate::proofs::Marking::mark_port))]
 fn use_port(used: &mut [u64; 64], end: End)
     requires { (length used.old ≡ 64) × EndInRange 64 end }
     ensures used_len { length used.new ≡ 64 }
     ensures by_index { (v p : ℕ) → marked used.new v p ≡ either (is_at v p end) (marked used.old v p) }
 {
-    used[end.switch as usize - 1] |= 1 << end.port;
+    used[usize::from(end.switch) - 1] |= 1 << end.port;
 }
 
 impl<'a> Rows<'a> {
     // Nothing of the sheet is read yet.
+    #[tactic(auto, using(crate::proofs::Marking::marks_none, crate::proofs::Scan::wholes_none))]
     pub fn new(sheet: &'a [u8]) -> Rows<'a>
         ensures { (result.sheet.now ≡ sheet.now) × (result.count ≡ 0) }
     {
@@ -51,7 +53,8 @@ impl<'a> Rows<'a> {
         }
     }
 
-    // Whether a row has an end at this port of this switch.
+    // Whether a row has an end at this port of this switch. The index is cast after the range is seen: `try_from` would want an `unwrap`.
+    #[tactic(auto, unfolding(crate::specs::Used::marked))]
     pub fn is_used(&self, v: Switch, p: Port) -> bool
         ensures { result ≡ cabled (first_rows self.now.sheet.now self.now.count) v.0 p.0 }
     {
@@ -74,6 +77,7 @@ impl<'a> Rows<'a> {
     }
 
     // The sheet's next row: both ends use a port from now on.
+    #[tactic(auto, using(crate::proofs::Marking::cabled_snoc))]
     pub fn use_cable(&mut self, c: Cable)
         requires range { EndInRange 64 c.near × EndInRange 64 c.far }
         requires room { self.old.count < 512 }

@@ -3,13 +3,14 @@
 use Prim.Native.Nat.{ℕ, ◌+◌, ◌-◌, ◌*◌, ◌≤◌}
 use mathlib.Core.Path.{◌≡◌, refl, ap, subst, ◌∙◌}
 use mathlib.Core.List.{List, ◌++◌, map}
-use mathlib.Core.Logic.{◌⊎◌, inl, inr}
+use mathlib.Core.Logic.{◌⊎◌}
 use mathlib.Core.Bool.{Bool, true, false, not}
 use native.Mathlib.Omega.{arith}
 use lib.ListN.{length, take, set, length-set, get_or-append}
 use lib.Seq.{set-append_left}
 use lib.Dec.{eqb}
-use borrow.Author.Tests.{eqb-true, eqb-false, eq-eqb, le-leb, not-true}
+use borrow.Author.Tests.{eq-eqb, le-leb}
+use Rattle.std.proofs.lemmas.Bool.Decides.{nat_tests}
 use Rattle.sheet.specs.Lists.{pick, both, either, any, ◌∈◌}
 use Rattle.sheet.specs.Cables.{rows_of}
 use Rattle.sheet.specs.Faults.{faults_of}
@@ -17,7 +18,7 @@ use Rattle.sheet.specs.Order.{port_order, is_cabled, is_live}
 use Rattle.sheet.specs.Refusals.{accepted, list_answer}
 use Rattle.sheet.specs.Sound.{Within, Sound}
 use Rattle.sheet.specs.declared.cables.Cable.{Cable}
-use Rattle.sheet.proofs.Lists.{true_both, either_swap, any_found}
+use Rattle.sheet.proofs.Lists.{true_both, any_found}
 use Rattle.sheet.proofs.Rows.{decides_within}
 use Rattle.sheet.proofs.Cabling.{port_of}
 use Rattle.switch.specs.Choice.{Outcome, leaves, stays, choose, Chosen}
@@ -172,7 +173,7 @@ module _ (order : List Cable) (f tag : List ℕ) (v arrival d : ℕ) (fresh : (c
           → (step.paper ≡ paper 0 arrival 0)
           × (cell_of step.tag v ≡ record { parent = record { 0 = arrival }; current = record { 0 = 0 } })
       so (delivered e) = absurd (away e)
-      so (undelivered e e') = let z : ◌≡◌ {A = ℕ} 0 1 = cc in absurd (omega arith)
+      so (undelivered e e') = cc
       so (forwarded e {port} {current} e') =
           let leaves_by : port ≡ arrival = cc in
           let stays_0 : current ≡ 0 = cc in (
@@ -206,26 +207,20 @@ module _ (n : ℕ) (order : List Cable) (f tag : List ℕ) (v arrival d : ℕ) w
       )
     where
       usable : (p : ℕ) → (p ≡ 0) ⊎ (is_live f p order ≡ true) → either (eqb p 0) (is_live f p order) ≡ true
-      usable p (inl e) = rw (eq-eqb p 0 e)
-      usable p (inr t) = rw t (either_swap (eqb p 0) true)
+      usable p t = grind (arith, nat_tests)
 
       fresh_tag : either (not (eqb arrival 0)) (not (any nonzero (take (2 * n) tag))) ≡ true
-      fresh_tag = by (eqb arrival 0) refl (any nonzero (take (2 * n) tag)) refl
+      fresh_tag = grind (arith, nat_tests, none)
         where
-          by : (a : Bool) → eqb arrival 0 ≡ a → (b : Bool) → any nonzero (take (2 * n) tag) ≡ b → either (not a) (not b) ≡ true
-          by false e b e' = refl
-          by true e false e' = refl
-          by true e true e' =
-              let (b, at, t) = any_found nonzero (take (2 * n) tag) e' in
-              absurd (eqb-false b 0 (not-true (eqb b 0) t) (h.fresh (eqb-true arrival 0 e) b at))
+          none : any nonzero (take (2 * n) tag) ≡ true → arrival ≡ 0 → ⊥
+          none t e = let (b, at, t') = any_found nonzero (take (2 * n) tag) t in grind (arith, nat_tests, h.fresh e b at)
 
       cell_usable : ((cell_of tag v).current.0 ≡ 0) ⊎ (is_cabled (cell_of tag v).current.0 order ≡ true)
           → either (eqb (cell_of tag v).current.0 0)
           (both (is_cabled (cell_of tag v).current.0 order)
           (either (eqb (cell_of tag v).parent.0 0) (is_live f (cell_of tag v).parent.0 order)))
           ≡ true
-      cell_usable (inl e) = rw (eq-eqb (cell_of tag v).current.0 0 e)
-      cell_usable (inr t) = rw (t, usable (cell_of tag v).parent.0 h.parent) (either_swap (eqb (cell_of tag v).current.0 0) true)
+      cell_usable t = grind (arith, nat_tests, usable (cell_of tag v).parent.0 h.parent)
 
 -- a step that is in order is the advance
 pub checked_step : (s f tag : List ℕ) (v arrival d : ℕ) {n cables : ℕ} → list_answer s f ≡ accepted n cables

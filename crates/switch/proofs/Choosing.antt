@@ -1,23 +1,24 @@
 -- The choice by the port numbers alone: the definition walks the cables after the current port, and on a sound sheet a port tells its
 -- cable, so each cable that the walk passes over is a port that is dead or the parent. No two outcomes meet that.
-use Prim.Native.Nat.{ℕ, zero, suc, ◌+◌}
+use Prim.Native.Nat.{ℕ, ◌+◌}
 use mathlib.Core.Path.{◌≡◌, refl, ap, sym, ◌∙◌}
 use mathlib.Core.List.{List, [], ◌∷◌, ◌++◌, map, append_assoc, append-nil}
 use mathlib.Core.Logic.Iff
 use mathlib.Core.Logic.{inl, inr, ⊎_elim, ◌↔◌}
-use mathlib.Core.Bool.{Bool, true, false, not}
+use mathlib.Core.Bool.{Bool, true}
 use native.Mathlib.Omega.{arith}
-use native.Mathlib.Numerals.{add-one, one-add}
-use lib.ListN.{drop}
-use lib.Dec.{eqb}
-use borrow.Author.Tests.{eqb-true, eqb-false}
-use Rattle.sheet.specs.Lists.{pick, both, ◌∈◌, Once, All}
+use native.Mathlib.Numerals.{add-one}
+use lib.ListN.{take, drop, take-append-drop}
+use Rattle.std.proofs.lemmas.Bool.Decides.{nat_tests}
+use Rattle.sheet.specs.Lists.{◌∈◌, Once, All}
 use Rattle.sheet.specs.Cables.{Socket}
 use Rattle.sheet.specs.Faults.{live, faults_of}
 use Rattle.sheet.specs.Order.{port_order, position_of, is_live}
 use Rattle.sheet.specs.Sound.{Sound}
 use Rattle.sheet.specs.declared.cables.Cable.{Cable}
 use Rattle.sheet.proofs.Cabling.{port_of, in_cabled, position_in, ports_once}
+use Rattle.sheet.proofs.Bytes.{all_append}
+use Rattle.sheet.proofs.Lists.{in_right}
 use Rattle.sheet.proofs.Tests.{true≢false}
 use Rattle.switch.specs.Choice.{Outcome, leaves, stays, after_current, first_open, choose, past, after, Shut, Chosen}
 use Rattle.switch.specs.Choice.{onward, homeward, nowhere}
@@ -27,33 +28,16 @@ use Rattle.switch.specs.Choice.{onward, homeward, nowhere}
 past_ports : (current : ℕ) (order : List Cable) → map port_of (drop (position_of current order + 1) order) ≡ past current (map port_of order)
 unfolding position_of
 past_ports current [] = refl
-past_ports current (c ∷ order) = go (eqb (port_of c) current) (past_ports current order)
-  where
-    go : (b : Bool) → map port_of (drop (position_of current order + 1) order) ≡ past current (map port_of order)
-        → map port_of (drop (pick b 0 (1 + position_of current order) + 1) (c ∷ order))
-        ≡ pick b (map port_of order) (past current (map port_of order))
-    go true rest = refl
-    go false rest = rw (one-add, add-one) (rw add-one at rest)
+past_ports current (c ∷ order) = grind (arith, add-one, past_ports current order)
 
 after_ports : (current : ℕ) (order : List Cable) → map port_of (after_current current order) ≡ after current (map port_of order)
-after_ports current order = go (eqb current 0)
-  where
-    go : (b : Bool) → map port_of (pick b order (drop (position_of current order + 1) order))
-        ≡ pick b (map port_of order) (past current (map port_of order))
-    go true = refl
-    go false = past_ports current order
+after_ports current order = grind (arith, past_ports current order)
 
 in_drop : (k : ℕ) (cables : List Cable) (c : Cable) → c ∈ drop k cables → c ∈ cables
-in_drop zero cables c at = at
-in_drop (suc k) [] c at = at
-in_drop (suc k) (d ∷ cables) c at = inr (in_drop k cables c at)
+in_drop k cables c at = rw take-append-drop at (in_right (take k cables) (drop k cables) c at)
 
 in_after : (current : ℕ) (order : List Cable) (c : Cable) → c ∈ after_current current order → c ∈ order
-in_after current order c = go (eqb current 0)
-  where
-    go : (b : Bool) → c ∈ pick b order (drop (position_of current order + 1) order) → c ∈ order
-    go true at = at
-    go false at = in_drop (position_of current order + 1) order c at
+in_after current order c at = grind (arith, in_drop (position_of current order + 1) order c)
 
 -- where no port stands twice, a cable of the order lives exactly if its port does
 live_port : (faults : List ℕ) (order : List Cable) → Once (map port_of order) → (c : Cable) → c ∈ order
@@ -69,49 +53,33 @@ module _ (ports : List ℕ) (lives : ℕ → Bool) (parent current : ℕ) where
   abbrev Ends : Outcome → Type 0
   Ends = Chosen ports lives parent current
 
-  all_snoc : (xs : List ℕ) (x : ℕ) → All Closed xs → Closed x → All Closed (xs ++ (x ∷ []))
-  all_snoc [] x all shut = (shut, tt)
-  all_snoc (y ∷ xs) x all shut = (all.0, all_snoc xs x all.1 shut)
-
   first_open_lem : (faults : List Socket) (passed : List ℕ) (cables : List Cable) → after current ports ≡ passed ++ map port_of cables
       → All Closed passed → ((c : Cable) → c ∈ cables → lives (port_of c) ≡ live faults c)
       → Chosen ports lives parent current (first_open faults parent current cables)
   unfolding first_open
-  first_open_lem faults passed [] split shut alike = go (eqb parent 0) refl
+  first_open_lem faults passed [] split shut alike =
+      let none : parent ≡ 0 → Ends stays = nowhere all in
+      let home : (parent ≡ 0 → ⊥) → Ends (leaves parent current) = homeward all in
+      grind (arith, nat_tests)
     where
       all : All Closed (after current ports)
       all = rw (split, append-nil) shut
-
-      go : (b : Bool) → eqb parent 0 ≡ b → Chosen ports lives parent current (pick b stays (leaves parent current))
-      go true e = nowhere all (eqb-true parent 0 e)
-      go false e = homeward all (eqb-false parent 0 e)
   first_open_lem faults passed (c ∷ cables) split shut alike =
-      go (live faults c) (eqb (port_of c) parent) refl refl
-      (λ closed. first_open_lem faults (passed ++ (port_of c ∷ [])) cables (rw append_assoc split) (all_snoc passed (port_of c) shut closed)
-      (λ d at. alike d (inr at)))
-    where
-      here : lives (port_of c) ≡ live faults c
-      here = alike c (inl refl)
-
-      go : (l p : Bool) → live faults c ≡ l → eqb (port_of c) parent ≡ p
-          → (Closed (port_of c) → Ends (first_open faults parent current cables))
-          → Ends (pick (both l (not p)) (leaves (port_of c) (port_of c)) (first_open faults parent current cables))
-      go true false alive other rest = onward passed (map port_of cables) split shut (here ∙ alive) (eqb-false (port_of c) parent other)
-      go true true alive same rest = rest (inr (eqb-true (port_of c) parent same))
-      go false p dead either rest = rest (inl (here ∙ dead))
+      let free : lives (port_of c) ≡ true → (port_of c ≡ parent → ⊥) → Ends (leaves (port_of c) (port_of c)) =
+      onward passed (map port_of cables) split shut in
+      let rest : Closed (port_of c) → Ends (first_open faults parent current cables) =
+      λ closed. first_open_lem faults (passed ++ (port_of c ∷ [])) cables (rw append_assoc split)
+      ((all_append Closed passed (port_of c ∷ [])).1 (shut, (closed, tt))) (λ d at. alike d (inr at)) in
+      grind (arith, nat_tests, alike c (inl refl))
 
   -- ---- the outcome is one
 
   not_shut : (p : ℕ) → lives p ≡ true → (p ≡ parent → ⊥) → Closed p → ⊥
   not_shut p alive other = ⊎_elim (true≢false alive) other
 
-  shut_at : (passed rest : List ℕ) (p : ℕ) → All Closed (passed ++ (p ∷ rest)) → Closed p
-  shut_at [] rest p all = all.0
-  shut_at (q ∷ passed) rest p all = shut_at passed rest p all.1
-
   some_open : (passed rest : List ℕ) (p : ℕ) → after current ports ≡ passed ++ (p ∷ rest) → lives p ≡ true → (p ≡ parent → ⊥)
       → All Closed (after current ports) → ⊥
-  some_open passed rest p e alive other all = not_shut p alive other (shut_at passed rest p (rw e at all))
+  some_open passed rest p e alive other all = not_shut p alive other ((all_append Closed passed (p ∷ rest)).0 (rw e at all)).1.0
 
   first_one : (passed passed' rest rest' : List ℕ) (p p' : ℕ) → passed ++ (p ∷ rest) ≡ passed' ++ (p' ∷ rest')
       → All Closed passed → All Closed passed' → (Closed p → ⊥) → (Closed p' → ⊥) → p ≡ p'
@@ -171,7 +139,7 @@ module _ {n : ℕ} {rows : List Cable} (sound : Sound n rows) (v : ℕ) (faults 
       told : {o : Outcome} → Chosen ports lives parent current o → o ≡ leaves parent current → NoneOpen × (parent ≡ 0 → ⊥)
       told (onward {p} passed rest e all alive other) same = absurd (other (cc))
       told (homeward all some) same = (all, some)
-      told (nowhere all none) same = let z : ◌≡◌ {A = ℕ} 0 1 = cc in absurd (omega arith)
+      told (nowhere all none) same = cc
 
   -- none exactly if, besides, the parent is 0
   pub stays_exactly : (choice ≡ stays) ↔ (NoneOpen × (parent ≡ 0))

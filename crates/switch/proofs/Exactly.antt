@@ -4,7 +4,7 @@ use Prim.Native.Nat.{ℕ, ◌*◌, ◌≤◌}
 use mathlib.Core.Path.{◌≡◌, refl, ap, sym, ◌∙◌}
 use mathlib.Core.List.{List, [], ◌∷◌}
 use mathlib.Core.Logic.Iff
-use mathlib.Core.Logic.{◌⊎◌, inl, inr, ⊎_elim, ◌↔◌}
+use mathlib.Core.Logic.{inl, inr, ⊎_elim, ◌↔◌}
 use mathlib.Core.Bool.{Bool, true, false}
 use native.Mathlib.Omega.{arith}
 use lib.ListN.{length}
@@ -42,7 +42,7 @@ pub record Follow (list : List Check) (rows : List Row) : Type 0 where
   pub passes : (first_broken list ≡ Passed) ↔ NoneBroken rows
 
 passed≢refused : {number : ℕ} {check : Check} → check ≡ Passed → check ≡ Refused number → ⊥
-passed≢refused p q = let z : ◌≡◌ {A = ℕ} 0 1 = cc in omega arith
+passed≢refused p q = cc
 
 no_rows : Follow [] []
 no_rows = record { refuses = λ number. (passed≢refused refl, λ h. absurd h); passes = (λ e. tt, λ h. refl) }
@@ -110,25 +110,6 @@ not_refusal (delivered e) = omega arith
 not_refusal (undelivered e e') = omega arith
 not_refusal (forwarded e e') = omega arith
 
--- ---- one number of the table
-
-module _ {B P : Type 0} {number m : ℕ} where
-  -- the row of this number, none of those after it having the number
-  is_first : number ≡ m → (P → ⊥) → ((B × (number ≡ m)) ⊎ (Not B × P)) ↔ B
-  is_first e none = (⊎_elim (λ h. h.0) (λ h. absurd (none h.1)), λ b. inl (b, e))
-
-  -- a row of another number, before it
-  is_later : {Q : Type 0} → (number ≡ m → ⊥) → P ↔ Q → ((B × (number ≡ m)) ⊎ (Not B × P)) ↔ (Not B × Q)
-  is_later other rest =
-      (⊎_elim (λ h. absurd (other h.1)) (λ h. (h.0, rest.0 h.1)), λ h. inr (h.0, rest.1 h.1))
-
-  -- or after it
-  is_none : (number ≡ m → ⊥) → (P → ⊥) → (B × (number ≡ m)) ⊎ (Not B × P) → ⊥
-  is_none other none = ⊎_elim (λ h. other h.1) (λ h. none h.1)
-
-no_more : ⊥ → ⊥
-no_more h = h
-
 -- on accepted lists: exactly by the first row of the table that is broken
 module _ {s f : List ℕ} {n cables : ℕ} (lists : BothAccepted s f n cables) (tag : List ℕ) (v arrival d : ℕ) where
   abbrev rows : List Cable
@@ -183,34 +164,21 @@ module _ {s f : List ℕ} {n cables : ℕ} (lists : BothAccepted s f n cables) (
   Row10 = Breaks10 rows faults v (cell_of tag v)
 
   pub refused_6 : Given 6 ↔ Row6
-  refused_6 =
-      Iff.trans (table_exactly 6)
-      (is_first refl
-      (is_none (λ e. omega arith) (is_none (λ e. omega arith) (is_none (λ e. omega arith) (is_none (λ e. omega arith) no_more)))))
+  refused_6 = Iff.trans (table_exactly 6) (λ h. grind arith, λ h. grind arith)
 
   pub refused_7 : Given 7 ↔ (Not Row6 × Row7)
-  refused_7 =
-      Iff.trans (table_exactly 7)
-      (is_later (λ e. omega arith)
-      (is_first refl (is_none (λ e. omega arith) (is_none (λ e. omega arith) (is_none (λ e. omega arith) no_more)))))
+  refused_7 = Iff.trans (table_exactly 7) (λ h. grind arith, λ h. grind arith)
 
   pub refused_8 : Given 8 ↔ (Not Row6 × (Not Row7 × Row8))
-  refused_8 =
-      Iff.trans (table_exactly 8)
-      (is_later (λ e. omega arith) (is_later (λ e. omega arith)
-      (is_first refl (is_none (λ e. omega arith) (is_none (λ e. omega arith) no_more)))))
+  refused_8 = Iff.trans (table_exactly 8) (λ h. grind arith, λ h. grind arith)
 
   pub refused_9 : Given 9 ↔ (Not Row6 × (Not Row7 × (Not Row8 × Row9)))
-  refused_9 =
-      Iff.trans (table_exactly 9)
-      (is_later (λ e. omega arith) (is_later (λ e. omega arith) (is_later (λ e. omega arith)
-      (is_first refl (is_none (λ e. omega arith) no_more)))))
+  refused_9 = Iff.trans (table_exactly 9) (λ h. grind arith, λ h. grind arith)
 
   pub refused_10 : Given 10 ↔ (Not Row6 × (Not Row7 × (Not Row8 × (Not Row9 × Row10))))
   refused_10 =
       Iff.trans (table_exactly 10)
-      (is_later (λ e. omega arith) (is_later (λ e. omega arith) (is_later (λ e. omega arith) (is_later (λ e. omega arith)
-      (is_first refl no_more)))))
+      (λ h. grind arith, λ h. inr (h.0, inr (h.1.0, inr (h.1.1.0, inr (h.1.1.1.0, inl (h.1.1.1.1, refl))))))
 
 -- ---- whatever the lists
 
@@ -223,12 +191,7 @@ from_lists (of_list sheet (by_fault h)) = omega arith
 
 module _ {n : ℕ} {rows : List Cable} {faults : List Socket} {tag : List ℕ} {v arrival d : ℕ} where
   from_table : {number : ℕ} → FirstBroken (table n rows faults tag v arrival d) number → (6 ≤ number) × (number ≤ 10)
-  from_table (inl h) = omega (arith, h.1)
-  from_table (inr (no6, inl h)) = omega (arith, h.1)
-  from_table (inr (no6, inr (no7, inl h))) = omega (arith, h.1)
-  from_table (inr (no6, inr (no7, inr (no8, inl h)))) = omega (arith, h.1)
-  from_table (inr (no6, inr (no7, inr (no8, inr (no9, inl h))))) = omega (arith, h.1)
-  from_table (inr (no6, inr (no7, inr (no8, inr (no9, inr (no10, none)))))) = absurd none
+  from_table h = (grind arith, grind arith)
 
 module _ (s f tag : List ℕ) (v arrival d number : ℕ) where
   -- given exactly when: by the lists, else by the table

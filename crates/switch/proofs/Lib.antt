@@ -2,7 +2,6 @@ pub mod Choosing
 pub mod Failing
 pub mod Blank
 pub mod Walking
-pub mod Moving
 pub mod Passing
 pub mod Stepping
 pub mod Exactly

@@ -14,10 +14,6 @@ use Rattle.switch.specs.Step.{Stepped, away_of, move_far, answer_far, told, told
 use Rattle.switch.specs.declared.step.Move.{Move}
 use Rattle.switch.specs.declared.step.Move.TheVariants.{Leaves, Delivered, Nowhere}
 
--- two ends with different numbers have different papers
-apart : {A : Type 0} (a b : ℕ) → (a ≡ b → ⊥) → a ≡ b → A
-apart a b other e = absurd (other e)
-
 one_far : (e e' : FarEnd) → away_of e ≡ away_of e' → e ≡ e'
 one_far e e' same = (λ i. record { switch = record { 0 = (same i).switch }; port = record { 0 = (same i).port } })
 
@@ -27,17 +23,15 @@ pub one_move : (m m' : Move) → move_paper m ≡ move_paper m' → move_far m �
 one_move (Leaves p far) (Leaves p' far') e f = ap₂ Leaves (λ i. record { 0 = (e i).port }) (one_far far far' f)
 one_move Delivered Delivered e f = refl
 one_move Nowhere Nowhere e f = refl
-one_move (Leaves p far) Delivered e f = apart 0 1 (λ z. omega arith) (λ i. (e i).end)
-one_move (Leaves p far) Nowhere e f = apart 0 2 (λ z. omega arith) (λ i. (e i).end)
-one_move Delivered (Leaves p far) e f = apart 1 0 (λ z. omega arith) (λ i. (e i).end)
-one_move Delivered Nowhere e f = apart 1 2 (λ z. omega arith) (λ i. (e i).end)
-one_move Nowhere (Leaves p far) e f = apart 2 0 (λ z. omega arith) (λ i. (e i).end)
-one_move Nowhere Delivered e f = apart 2 1 (λ z. omega arith) (λ i. (e i).end)
+one_move (Leaves p far) Delivered e f = absurd (omega (arith, ap (λ p. p.end) e))
+one_move (Leaves p far) Nowhere e f = absurd (omega (arith, ap (λ p. p.end) e))
+one_move Delivered (Leaves p far) e f = absurd (omega (arith, ap (λ p. p.end) e))
+one_move Delivered Nowhere e f = absurd (omega (arith, ap (λ p. p.end) e))
+one_move Nowhere (Leaves p far) e f = absurd (omega (arith, ap (λ p. p.end) e))
+one_move Nowhere Delivered e f = absurd (omega (arith, ap (λ p. p.end) e))
 
 moves : (m : Move) → (move_paper m).end ≡ 3 → ⊥
-moves (Leaves p far) z = omega arith
-moves Delivered z = omega arith
-moves Nowhere z = omega arith
+moves m z = grind arith
 
 pub one_out : (r r' : Result Move Refusal) → paper_of r ≡ paper_of r' → answer_far r ≡ answer_far r' → r ≡ r'
 one_out (Ok m) (Ok m') e f = ap (λ move. Ok move) (one_move m m' e f)

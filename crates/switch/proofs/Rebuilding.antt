@@ -1,8 +1,9 @@
 -- Condition 2, the step's share: a sheet built anew, its rows in another order and each either way round, gives the same answer and the
 -- same tag, whatever else is passed. The step asks the sheet for the answer to the lists and for one port order, and both are the same.
 use Prim.Native.Nat.{ℕ}
-use mathlib.Core.Path.{◌≡◌, refl, ap₂}
+use mathlib.Core.Path.{◌≡◌, ap₂}
 use mathlib.Core.List.{List}
+use native.Mathlib.Omega.{arith}
 use Rattle.sheet.specs.Cables.{rows_of, switches_of}
 use Rattle.sheet.specs.Order.{port_order}
 use Rattle.sheet.specs.Refusals.{Answer, accepted, refused, list_answer}
@@ -12,7 +13,7 @@ use Rattle.sheet.specs.Cabling.{SameCabling}
 use Rattle.sheet.specs.declared.cables.Cable.{Cable}
 use Rattle.sheet.proofs.RebuiltSheet.{rebuilt_sheet}
 use Rattle.switch.specs.Checks.{checks}
-use Rattle.switch.specs.Step.{Stepped, stopped, unless, advanced, stepped_on, stepped}
+use Rattle.switch.specs.Step.{Stepped, stopped, unless, advanced, stepped}
 
 module _ (f tag : List ℕ) (v arrival d : ℕ) where
   -- the step by what it asks of the sheet
@@ -22,11 +23,7 @@ module _ (f tag : List ℕ) (v arrival d : ℕ) where
 
   asks : (s : List ℕ) → stepped s f tag v arrival d ≡ answered (list_answer s f) (port_order (rows_of s) v)
   unfolding stepped answered
-  asks s = by_answer (list_answer s f)
-    where
-      by_answer : (answer : Answer) → stepped_on answer s f tag v arrival d ≡ answered answer (port_order (rows_of s) v)
-      by_answer (refused number) = refl
-      by_answer (accepted n cables) = refl
+  asks s = grind arith
 
   -- two sheets that answer every question alike
   pub same_step : (s s' : List ℕ) → SameCabling s s' → stepped s f tag v arrival d ≡ stepped s' f tag v arrival d

@@ -3,10 +3,8 @@
 use Prim.Native.Nat.{ℕ}
 use mathlib.Core.Path.{◌≡◌, refl}
 use mathlib.Core.List.{List}
-use mathlib.Core.Bool.{Bool, true, false}
-use lib.Dec.{eqb}
-use borrow.Author.Tests.{eqb-true, eqb-false}
-use Rattle.sheet.specs.Lists.{pick}
+use native.Mathlib.Omega.{arith}
+use Rattle.std.proofs.lemmas.Bool.Decides.{nat_tests}
 use Rattle.sheet.specs.Cables.{rows_of}
 use Rattle.sheet.specs.Faults.{faults_of}
 use Rattle.sheet.specs.Order.{port_order}
@@ -56,7 +54,10 @@ pub data Advances (order : List Cable) (f tag : List ℕ) (v arrival d : ℕ) : 
 pub advances : (order : List Cable) (f tag : List ℕ) (v arrival d : ℕ)
     → Advances order f tag v arrival d (advanced order f tag v arrival d)
 unfolding advanced
-advances order f tag v arrival d = go (eqb v d) refl
+advances order f tag v arrival d =
+    let here : v ≡ d → Advances order f tag v arrival d (stopped 1 0 tag) = delivered in
+    let away : (v ≡ d → ⊥) → Advances order f tag v arrival d (moved order tag v cell choice) = λ n. by_choice n choice refl in
+    grind (arith, nat_tests)
   where
     cell : Cell
     cell = entered (cell_of tag v) arrival
@@ -67,10 +68,6 @@ advances order f tag v arrival d = go (eqb v d) refl
     by_choice : (v ≡ d → ⊥) → (o : Outcome) → choice ≡ o → Advances order f tag v arrival d (moved order tag v cell o)
     by_choice away (leaves port current) e = forwarded away e
     by_choice away stays e = undelivered away e
-
-    go : (b : Bool) → eqb v d ≡ b → Advances order f tag v arrival d (pick b (stopped 1 0 tag) (moved order tag v cell choice))
-    go true e = delivered (eqb-true v d e)
-    go false e = by_choice (eqb-false v d e) choice refl
 
 -- ---- a step
 

@@ -4,24 +4,23 @@ use Prim.Native.Nat.{ℕ, ◌+◌, ◌-◌, ◌*◌, ◌<◌}
 use mathlib.Core.Path.{◌≡◌, refl, ap, sym, ◌∙◌}
 use mathlib.Core.List.{List, [], ◌∷◌}
 use mathlib.Core.Logic.{◌↔◌}
-use mathlib.Core.Bool.{Bool, true, false, not}
+use mathlib.Core.Bool.{Bool, true, false}
 use native.Mathlib.Omega.{arith}
-use lib.ListN.{length, get_or, drop, set, take, length-set}
+use lib.ListN.{length, get_or, drop, set, length-set}
 use lib.Seq.{get_or-set_same, get_or-set_other, drop-set-lt}
 use lib.Dec.{leb, eqb}
-use borrow.Author.Tests.{eqb-true}
-use Rattle.sheet.specs.Lists.{pick, either, any}
+use Rattle.std.proofs.lemmas.Bool.Decides.{nat_tests}
+use Rattle.sheet.specs.Lists.{pick}
 use Rattle.sheet.specs.Cables.{rows_of, switches_of}
 use Rattle.sheet.specs.Faults.{faults_of}
 use Rattle.sheet.specs.Order.{port_order}
 use Rattle.sheet.specs.Refusals.{Answer, accepted, refused, list_answer}
 use Rattle.sheet.specs.Exactly.{BothAccepted}
 use Rattle.sheet.specs.declared.cables.Cable.{Cable}
-use Rattle.sheet.proofs.Lists.{same_test}
 use Rattle.sheet.proofs.Exactly.{both_accepted}
 use Rattle.switch.specs.Choice.{Outcome, leaves, stays, choose}
 use Rattle.switch.specs.Cell.{cell_of, with_cell, entered, left_by}
-use Rattle.switch.specs.Checks.{nonzero, rule, switches_rule, arrival_rule, fresh_rule, cell_rule, first_broken, checks}
+use Rattle.switch.specs.Checks.{rule, switches_rule, arrival_rule, fresh_rule, cell_rule, first_broken, checks}
 use Rattle.switch.specs.Step.{Stepped, stopped, moved, advanced, unless, stepped}
 use Rattle.switch.specs.Exactly.{Marked}
 use Rattle.switch.specs.Alike.{AlikeTags, AlikeSteps}
@@ -43,14 +42,10 @@ module _ (tag : List ℕ) (v : ℕ) (cell : Cell) where
   length_with = simp length-set
 
   pub with_other : (i : ℕ) → (i ≡ first → ⊥) → (i ≡ first + 1 → ⊥) → get_or (with_cell tag v cell) i 0 ≡ get_or tag i 0
-  with_other i not_first not-second =
-      get_or-set_other (set tag first cell.parent.0) (first + 1) i cell.current.0 0 not-second
-      ∙ get_or-set_other tag first i cell.parent.0 0 not_first
+  with_other i not_first not-second = grind (arith, get_or-set_other {A = ℕ})
 
   pub with_beyond : (k : ℕ) → first + 1 < k → drop k (with_cell tag v cell) ≡ drop k tag
-  with_beyond k h =
-      drop-set-lt k (set tag first cell.parent.0) (first + 1) cell.current.0 (omega arith)
-      ∙ drop-set-lt k tag first cell.parent.0 (omega arith)
+  with_beyond k h = grind (arith, drop-set-lt {A = ℕ})
 
   -- read back as it was written
   pub cell_with : first + 1 < length tag → cell_of (with_cell tag v cell) v ≡ cell
@@ -160,17 +155,7 @@ module _ (order : List Cable) (f tag tag' : List ℕ) (v arrival d : ℕ) (cell 
 
 fresh_alike : (n arrival : ℕ) (tag tag' : List ℕ) → (arrival ≡ 0 → Marked n tag ↔ Marked n tag')
     → fresh_rule n tag arrival ≡ fresh_rule n tag' arrival
-fresh_alike n arrival tag tag' marks = go (eqb arrival 0) refl
-  where
-    some : List ℕ → Bool
-    some t = any nonzero (take (2 * n) t)
-
-    go : (b : Bool) → eqb arrival 0 ≡ b → rule 9 (either (not b) (not (some tag))) ≡ rule 9 (either (not b) (not (some tag')))
-    go true e =
-        let same = marks (eqb-true arrival 0 e) in
-        ap (λ b. rule 9 (not b)) (same_test (some tag) (some tag') (λ t. (marked n tag').1 (same.0 ((marked n tag).0 t)))
-        (λ t. (marked n tag).1 (same.1 ((marked n tag').0 t))))
-    go false e = refl
+fresh_alike n arrival tag tag' marks = grind (arith, nat_tests, marks, marked n tag, marked n tag')
 
 checks_alike : (n : ℕ) (order : List Cable) (f tag tag' : List ℕ) (v arrival d : ℕ) → AlikeTags n v arrival tag tag'
     → checks n order f tag v arrival d ≡ checks n order f tag' v arrival d

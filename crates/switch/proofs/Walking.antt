@@ -1,7 +1,7 @@
 -- The choice as a walk over the places of a port order: a cable that is not open leaves the choice to the cables after it, an open one
 -- decides, and past the last the parent does.
-use Prim.Native.Nat.{ℕ, suc, ◌+◌, ◌*◌, ◌/◌, ◌≤◌, ◌<◌}
-use mathlib.Core.Path.{◌≡◌, refl, ap, sym, ◌∙◌}
+use Prim.Native.Nat.{ℕ, ◌+◌, ◌*◌, ◌/◌, ◌≤◌, ◌<◌}
+use mathlib.Core.Path.{◌≡◌, ap, sym, ◌∙◌}
 use mathlib.Core.List.{List, [], ◌∷◌}
 use mathlib.Core.Bool.{Bool, true, false, not}
 use native.Mathlib.Omega.{arith}
@@ -10,45 +10,32 @@ use lib.ListN.{length, drop, drop_of_length-le}
 use lib.Seq.{drop-cons}
 use lib.Dec.{leb, eqb}
 use Rattle.std.specs.Prelude.{Option, Some, None}
-use borrow.Author.Tests.{leb-true, le-leb, eq-eqb, ne_eqb}
-use Rattle.sheet.specs.Lists.{pick, both}
+use Rattle.std.proofs.lemmas.Bool.Decides.{nat_tests}
+use Rattle.sheet.specs.Lists.{both}
 use Rattle.sheet.specs.Cables.{Socket}
 use Rattle.sheet.specs.Faults.{live}
 use Rattle.sheet.specs.Order.{position_of, cable_of, no_cable}
 use Rattle.sheet.specs.declared.cables.Cable.{Cable}
-use Rattle.sheet.proofs.Lists.{same_test}
-use Rattle.switch.specs.Choice.{leaves, stays, outcome_of, Storable, by_parent, first_open}
+use Rattle.switch.specs.Choice.{leaves, outcome_of, Storable, by_parent, first_open}
 use Rattle.switch.specs.declared.choice.Leave.{Leave}
 
 -- a position is no further than the end
 pub position_within : (p : ℕ) (order : List Cable) → position_of p order ≤ length order
 unfolding position_of
 position_within p [] = omega arith
-position_within p (c ∷ order) = go (eqb c.near.port p) (position_within p order)
-  where
-    go : (b : Bool) → position_of p order ≤ length order → pick b 0 (1 + position_of p order) ≤ suc (length order)
-    go true h = omega arith
-    go false h = omega arith
+position_within p (c ∷ order) = grind (arith, position_within p order)
 
 abbrev pub is_open : List Socket → ℕ → Cable → Bool
 is_open faults parent c = both (live faults c) (not (eqb c.near.port parent))
 
 -- the parent is not open
 pub parent_shut : (faults : List Socket) (parent : ℕ) (c : Cable) → c.near.port ≡ parent → false ≡ is_open faults parent c
-parent_shut faults parent c same = rw (eq-eqb c.near.port parent same) (go (live faults c))
-  where
-    go : (a : Bool) → false ≡ both a false
-    go true = refl
-    go false = refl
+parent_shut faults parent c same = grind (arith, nat_tests)
 
 -- and any other port is, if its cable lives
 pub other_open : (faults : List Socket) (parent : ℕ) (c : Cable) {lives : Bool} → (c.near.port ≡ parent → ⊥) → lives ≡ live faults c
     → lives ≡ is_open faults parent c
-other_open faults parent c other e = e ∙ rw (ne_eqb c.near.port parent other) (go (live faults c))
-  where
-    go : (a : Bool) → a ≡ both a true
-    go true = refl
-    go false = refl
+other_open faults parent c other e = grind (arith, nat_tests)
 
 -- the choice from one position is the choice from another
 pub record From (order : List Cable) (faults : List Socket) (parent current from i : ℕ) : Type 0 where
@@ -72,19 +59,15 @@ module _ {order : List Cable} {faults : List Socket} {parent current from i : �
   unfolding first_open
   open_none over = sym (walked.same ∙ ap (first_open faults parent current) (drop_of_length-le order {i = i} over))
 
+-- the laws by which the check finds alone what a cable does to the choice
+pub ruleset open_cables = (open_next, open_found, open_none)
+
 -- what by-parent answers can be stored where the current port can
 pub by_parent_storable : (choice : Option Leave) (parent current : ℕ) → outcome_of choice ≡ by_parent parent current → current < 256
     → Storable choice
 by_parent_storable None parent current e small = tt
-by_parent_storable (Some leave) parent current e small = go (eqb parent 0) e
-  where
-    go : (b : Bool) → leaves leave.port.0 leave.current.0 ≡ pick b stays (leaves parent current) → leave.current.0 < 256
-    go true e' = let z : ◌≡◌ {A = ℕ} 0 1 = cc in absurd (omega arith)
-    go false e' = let same : leave.current.0 ≡ current = cc in omega arith
+by_parent_storable (Some leave) parent current e small = grind arith
 
 -- the halved length decides rule 7 as the doubled number of switches does
 pub halved : (n size : ℕ) → leb n (size / 2) ≡ leb (2 * n) size
-halved n size =
-    same_test (leb n (size / 2)) (leb (2 * n) size)
-    (λ t. le-leb (2 * n) size (omega (arith, leb-true n (size / 2) t)))
-    (λ t. le-leb n (size / 2) (omega (arith, leb-true (2 * n) size t)))
+halved n size = grind (arith, nat_tests)

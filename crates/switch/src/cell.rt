@@ -1,4 +1,4 @@
-// The tag cell of one switch: two bytes of the tag, parent port and then current port. Only `read` and `write` touch the tag's bytes.
+// The tag cell of one switch: two bytes of the tag, parent port and then current port. Only `read` and `write` know where a cell stands.
 ghost use Rattle.std.specs.Prelude.{◌≡◌};
 ghost use Rattle.switch.specs.Cell.{CellInside, CellFits, cell_of, with_cell, entered, left_by};
 
@@ -12,8 +12,8 @@ pub struct Cell {
 }
 
 impl Cell {
-    // That the two bytes are inside the tag is asked of each caller: the tag is the agent's, and no type of ours. The casts of `write` are
-    // proved to lose nothing.
+    // That the two bytes are inside the tag is asked of each caller: the tag is the agent's, and no type of ours. The casts here and in
+    // `write` are proved to lose nothing; `try_from` would be followed by an `unwrap`.
     pub(crate) fn read(tag: &[u8], v: Switch) -> Cell
         requires { CellInside tag.now v.0 }
         ensures exact { result ≡ cell_of tag.now v.0 }
@@ -26,6 +26,7 @@ impl Cell {
         }
     }
 
+    // That the ports fit a byte is asked too: `entered` and `left_by` take any.
     pub(crate) fn write(self, tag: &mut [u8], v: Switch)
         requires cell_inside { CellInside tag.old v.0 }
         requires cell_fits { CellFits self }

@@ -1,8 +1,8 @@
 // Refusals 6 to 10.
-ghost use Rattle.std.specs.Prelude.{◌≡◌, ◌*◌, ◌≤◌, ◌↔◌, IsTrue, All, not, length, take, eqb};
-ghost use Rattle.sheet.specs.Lists.{both, either, any};
+ghost use Rattle.std.specs.Prelude.{◌≡◌, ◌*◌, ◌≤◌, ◌↔◌, IsTrue, All, length, eqb};
+ghost use Rattle.sheet.specs.Lists.{both, either};
 ghost use Rattle.sheet.specs.Order.{is_cabled, is_live};
-ghost use Rattle.switch.specs.Checks.{rule, check_of, nonzero, switches_rule, tag_rule, arrival_rule, fresh_rule, cell_rule};
+ghost use Rattle.switch.specs.Checks.{rule, check_of, switches_rule, tag_rule, arrival_rule, fresh_rule, cell_rule};
 ghost use Rattle.sheet.specs.Refusals.{refusal_number};
 
 use crate::cell::Cell;
@@ -26,7 +26,8 @@ pub fn check_switches(n: u64, v: Switch, d: Switch) -> Result<(), Refusal>
 }
 
 // 7: tag shorter than 2n bytes. Halving its length instead of doubling n leaves nothing to wrap. The walk's check of the trace is as short,
-// and stands apart since each is a line of the outline with its rule: one for both would take the 2 and the 4 out of them.
+// and stands apart since each is a line of the outline with its rule: one for both would take the 2 and the 4 out of them. A length is cast
+// here and n below: between usize and u64 there is no `From`, and both have 64 bits.
 pub fn check_tag(n: u64, tag: &[u8]) -> Result<(), Refusal>
     ensures { check_of result ≡ tag_rule n tag.now }
 {
@@ -41,6 +42,7 @@ fn is_blank(bytes: &[u8]) -> bool
 }
 
 // 9: arrival port 0 and any of the first 2n tag bytes not 0. A packet from the host brings a blank tag; of any other nothing is asked.
+#[tactic(auto, using(crate::proofs::Blank::none_marked, crate::proofs::Blank::all_zero))]
 pub(crate) fn check_fresh(n: u64, tag: &[u8], arrival: Port) -> Result<(), Refusal>
     requires { 2 * n ≤ length tag.now }
     ensures { check_of result ≡ fresh_rule n tag.now arrival.0 }

@@ -44,6 +44,7 @@ fn by_parent(cell: Cell) -> Option<Leave>
 impl Ports<'_> {
     // The choice among the cables from a position on. That the current port fits a byte is asked here, and is no fact of the type: a Cell
     // that a caller makes may hold any ports.
+    #[tactic(auto, using(crate::proofs::Walking::open_cables))]
     fn first_open(&self, cell: Cell, from: Position) -> Option<Leave>
         requires { cell.current.0 < 256 }
         ensures exact { outcome_of result ≡ first_open (faults_of self.now.faults.now) cell.parent.0 cell.current.0
@@ -75,6 +76,7 @@ impl Ports<'_> {
     }
 
     // The bound as for `first_open`.
+    #[tactic(auto, unfolding(crate::specs::Choice::choose))]
     pub(crate) fn choose(&self, cell: Cell) -> Option<Leave>
         requires { cell.current.0 < 256 }
         ensures exact { outcome_of result ≡ choose (faults_of self.now.faults.now) cell.parent.0 cell.current.0 self.now.order }

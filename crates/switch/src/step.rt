@@ -22,6 +22,7 @@ pub enum Move {
 
 // The step after the checks. Rules 1 to 4 of the step: at the destination nothing is read or written; else the cell takes its parent where
 // it has no current port, and the choice says by which port the packet leaves and which port is current from then on.
+#[tactic(auto, unfolding(crate::specs::Step::advanced))]
 pub fn advance(ports: &Ports<'_>, tag: &mut [u8], v: Switch, arrival: Port, d: Switch) -> Move
     requires { Ready tag.old v.0 arrival.0 }
     ensures { told_move result tag.new
@@ -43,6 +44,7 @@ pub fn advance(ports: &Ports<'_>, tag: &mut [u8], v: Switch, arrival: Port, d: S
 // One step, from the bytes: refusals 1 to 5, then 6 to 10, then the step itself. Each check's refusal is passed on as it is, by `let ..
 // else` as the outline wants it, and not by `?`. Present switch, arrival port and destination stay three parameters, as the outline lists
 // them; the tag beside them is lent to be written.
+#[tactic(auto, using(sheet::proofs::Places::placed_order), unfolding(crate::specs::Step::stepped, crate::specs::Checks::checks))]
 pub fn step(
     lists: &Lists<'_>,
     tag: &mut [u8],

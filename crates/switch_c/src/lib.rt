@@ -1,4 +1,5 @@
-// What a host program in C links of `switch`: one step.
+// What a host program in C links of `switch`: one step. It only passes the library's function on: the kit builds a crate as a library or as
+// a static library.
 #![tactic(auto)]
 
 ghost use Rattle.std.specs.Prelude.{◌≡◌};

@@ -3,7 +3,7 @@
 use Prim.Native.Nat.{ℕ, zero, suc, ◌*◌, ◌≤◌}
 use mathlib.Core.Path.{◌≡◌, refl, ap, sym, ◌∙◌}
 use mathlib.Core.List.{List, [], map, reverse}
-use mathlib.Core.Logic.{◌⊎◌, inl, inr}
+use mathlib.Core.Logic.{◌⊎◌, inl, inr, ⊎_elim, ⊎_map}
 use mathlib.Core.Bool.{true}
 use native.Mathlib.Omega.{arith}
 use lib.ListN.{length, take, replicate, length-append, length-reverse}
@@ -31,8 +31,7 @@ use Rattle.walk.proofs.Traversal.{Sane, run_sane}
 
 zeros_only : (n b : ℕ) → b ∈ replicate n 0 → b ≡ 0
 zeros_only zero b m = absurd m
-zeros_only (suc n) b (inl e) = e
-zeros_only (suc n) b (inr m) = zeros_only n b m
+zeros_only (suc n) b m = ⊎_elim (λ e. e) (zeros_only n b) m
 
 -- before the first hop the tag is as it was sent
 untouched : {s faults : List ℕ} {source destination : ℕ} {k : Packet} → Way s faults destination source k → length k.trace ≡ 0
@@ -57,8 +56,7 @@ module _ (s faults : List ℕ) (source destination : ℕ) {n cables : ℕ} (list
 
     arrived : ((k.arrival ≡ 0) × (reverse k.trace ≡ [])) ⊎ Live (network_of s faults) (dart k.at k.arrival)
         → (k.arrival ≡ 0) ⊎ (live_at s faults k.at k.arrival ≡ true)
-    arrived (inl host) = inl host.0
-    arrived (inr live) = inr live.1
+    arrived = ⊎_map (λ host. host.0) (λ live. live.1)
 
     fresh : ((k.arrival ≡ 0) × (reverse k.trace ≡ [])) ⊎ Live (network_of s faults) (dart k.at k.arrival)
         → k.arrival ≡ 0 → (b : ℕ) → b ∈ take (2 * switches_of s) k.tag → b ≡ 0
@@ -72,17 +70,10 @@ module _ (s faults : List ℕ) (source destination : ℕ) {n cables : ℕ} (list
     current = by (rw (current_in_lem k.tag k.at low) at (sane.current k.at))
       where
         by : {p : ℕ} → (p ≡ 0) ⊎ (p ∈ map port_of (order_at s k.at)) → (p ≡ 0) ⊎ (is_cabled p (order_at s k.at) ≡ true)
-        by (inl e) = inl e
-        by {p} (inr m) =
-            let (c, at, e) = map_in port_of (order_at s k.at) p m in
-            inr (in_cabled p (order_at s k.at) c at (sym e))
+        by {p} = ⊎_map (λ e. e) (λ m. let (c, at, e) = map_in port_of (order_at s k.at) p m in in_cabled p (order_at s k.at) c at (sym e))
 
     parent : ((cell_of k.tag k.at).parent.0 ≡ 0) ⊎ (live_at s faults k.at (cell_of k.tag k.at).parent.0 ≡ true)
-    parent = by (rw (parent_in_lem k.tag k.at low) at (sane.parent k.at))
-      where
-        by : {p : ℕ} → (p ≡ 0) ⊎ Live (network_of s faults) (dart k.at p) → (p ≡ 0) ⊎ (live_at s faults k.at p ≡ true)
-        by (inl e) = inl e
-        by (inr live) = inr live.1
+    parent = ⊎_map (λ e. e) (λ live. live.1) (rw (parent_in_lem k.tag k.at low) at (sane.parent k.at))
 
     in_order : InOrder n (order_at s k.at) faults k.tag k.at k.arrival destination
     in_order =

@@ -3,7 +3,6 @@ use Prim.Native.Nat.{ℕ, ◌*◌, ◌≤◌}
 use mathlib.Core.Path.{◌≡◌, refl}
 use mathlib.Core.List.{List, [], ◌∷◌}
 use mathlib.Core.Bool.{Bool, true, false}
-use native.Mathlib.Omega.{arith}
 use lib.ListN.{length}
 use lib.Dec.{leb}
 use borrow.Author.Tests.{leb-true, le-leb}
@@ -18,13 +17,9 @@ use Rattle.sheet.proofs.Accepted.{accepted_of}
 use Rattle.sheet.proofs.Sheet.{rows_of_lem}
 use Rattle.sheet.proofs.Exactly.{both_accepted}
 use Rattle.switch.specs.Checks.{rule, first_broken}
-use Rattle.switch.specs.Checks.{Check}
 use Rattle.switch.specs.Checks.{Passed, Refused}
 use Rattle.walk.specs.Walk.{checks_on, walk_checks}
 use Rattle.walk.specs.Condition3.{Premises}
-
-pub passed≢refused : {check : Check} {number : ℕ} → check ≡ Passed → check ≡ Refused number → ⊥
-passed≢refused p q = let z : ◌≡◌ {A = ℕ} 0 1 = cc in omega arith
 
 pub on_sheet_lem : (source destination n : ℕ)
     → Decides (both (within n source) (within n destination)) (Within n source × Within n destination)
@@ -60,13 +55,13 @@ module _ (s faults tag trace : List ℕ) (source destination : ℕ) where
             tag_room = leb-true (2 * n) (length tag) long;
             trace_room = leb-true (4 * cables) (length trace) room;
           }
-      by_tests e true true false on long room h = absurd (passed≢refused h refl)
-      by_tests e true false c on long room h = absurd (passed≢refused h refl)
-      by_tests e false b c on long room h = absurd (passed≢refused h refl)
+      by_tests e true true false on long room h = cc
+      by_tests e true false c on long room h = cc
+      by_tests e false b c on long room h = cc
 
       by_answer : (answer : Answer) → list_answer s faults ≡ answer → checks_on answer tag trace source destination ≡ Passed
           → Premises s faults tag trace source destination
-      by_answer (refused number) e h = absurd (passed≢refused h refl)
+      by_answer (refused number) e h = cc
       by_answer (accepted n cables) e h =
           by_tests e (both (within n source) (within n destination)) (leb (2 * n) (length tag)) (leb (4 * cables) (length trace))
           refl refl refl h

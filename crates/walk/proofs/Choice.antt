@@ -1,18 +1,19 @@
--- The published choice always has an outcome, and one only. And what it does to the ports still to be tried, those after
+-- The published choice always has an outcome. And what it does to the ports still to be tried, those after
 -- the current one: it leaves by the first that is open and goes on behind it, or finds none and leaves by the parent.
 use mathlib.Core.Path.{◌≡◌, refl, sym, ap, subst, ◌∙◌}
 use mathlib.Core.List.{List, [], ◌∷◌, ◌++◌, append_assoc}
-use mathlib.Core.Bool.{Bool, true, false, true≢false}
+use mathlib.Core.Bool.{Bool, true, false}
 use mathlib.Core.Logic.{◌⊎◌, inl, inr}
 use Prim.Native.Nat.{ℕ}
 use native.Mathlib.Decide.{ℕ_discrete}
 use lib.Dec.{eqb}
-use borrow.Author.Tests.{eq-eqb, ne_eqb}
+use borrow.Author.Tests.{ne_eqb}
+use Rattle.std.proofs.lemmas.Bool.Decides.{nat_tests}
+use native.Mathlib.Omega.{arith}
 use Rattle.sheet.specs.Lists.{◌∈◌, Once, All, pick}
 use Rattle.switch.specs.Choice.{past, after, Outcome, leaves, stays, Shut, Chosen, onward, homeward, nowhere}
-use Rattle.sheet.proofs.Lists.{all_at, in_right}
+use Rattle.sheet.proofs.Lists.{all_at, in_append, in_right}
 use Rattle.sheet.proofs.Bytes.{once_append}
-use Rattle.walk.proofs.Lists.{in_middle, append_in}
 
 -- ---- the ports after the current one
 
@@ -38,20 +39,15 @@ pub after_none : (c : ℕ) (ports : List ℕ) → c ≡ 0 → after c ports ≡ 
 after_none c ports e = rw e refl
 
 past_at : (before : List ℕ) (p : ℕ) (rest : List ℕ) → Once (before ++ (p ∷ rest)) → past p (before ++ (p ∷ rest)) ≡ rest
-past_at [] p rest o = rw (eq-eqb p p refl)
-past_at (x ∷ before) p rest o =
-    rw (ne_eqb x p (λ e. o.0 (subst (λ z. z ∈ (before ++ (p ∷ rest))) (sym e) (in_middle before p rest)))) (past_at before p rest o.1)
+past_at [] p rest o = grind (arith, nat_tests)
+past_at (x ∷ before) p rest o = grind (arith, nat_tests, in_right before (p ∷ rest) p (inl refl), past_at before p rest o.1)
 
 module _ (ports : List ℕ) (live : ℕ → Bool) (parent current : ℕ) where
   -- the choice passes this port over
   abbrev Barred : ℕ → Type 0
   Barred q = Shut ports live parent current q
 
-  not_shut : (q : ℕ) → live q ≡ true → (q ≡ parent → ⊥) → Barred q → ⊥
-  not_shut q alive other (inl dead) = true≢false (sym alive ∙ dead)
-  not_shut q alive other (inr e) = other e
-
-  -- ---- an outcome, and one only
+  -- ---- an outcome; that it is one only is a law of the switch, `chosen_one`
 
   -- the first port that is not passed over
   record First (xs : List ℕ) : Type 0 where
@@ -95,30 +91,6 @@ module _ (ports : List ℕ) (live : ℕ → Bool) (parent current : ℕ) where
       by (inl all) (yes e) = (stays, nowhere all e)
       by (inl all) (no n) = (leaves parent current, homeward all n)
 
-  first_one : (xs ys : List ℕ) (p q : ℕ) (l r : List ℕ) → All Barred xs → All Barred ys → (Barred p → ⊥) → (Barred q → ⊥)
-      → xs ++ (p ∷ l) ≡ ys ++ (q ∷ r) → p ≡ q
-  first_one [] [] p q l r a b np nq e = cc
-  first_one [] (y ∷ ys) p q l r a b np nq e = absurd (np (let h : y ≡ p = cc in subst Barred h b.0))
-  first_one (x ∷ xs) [] p q l r a b np nq e = absurd (nq (let h : x ≡ q = cc in subst Barred h a.0))
-  first_one (x ∷ xs) (y ∷ ys) p q l r a b np nq e = first_one xs ys p q l r a.1 b.1 np nq cc
-
-  not_all_shut : {p : ℕ} (passed rest : List ℕ) → after current ports ≡ passed ++ (p ∷ rest) → live p ≡ true → (p ≡ parent → ⊥)
-      → All Barred (after current ports) → ⊥
-  not_all_shut {p} passed rest e alive other all =
-      not_shut p alive other (all_at Barred (after current ports) p all (rw e (in_middle passed p rest)))
-
-  pub choice_one : {o o' : Outcome} → Chosen ports live parent current o → Chosen ports live parent current o' → o ≡ o'
-  choice_one (onward {p} xs l e a alive other) (onward {p = q} ys r e' b alive' other') =
-      ap (λ z. leaves z z) (first_one xs ys p q l r a b (not_shut p alive other) (not_shut q alive' other') (sym e ∙ e'))
-  choice_one (onward xs l e a alive other) (homeward all has) = absurd (not_all_shut xs l e alive other all)
-  choice_one (onward xs l e a alive other) (nowhere all none) = absurd (not_all_shut xs l e alive other all)
-  choice_one (homeward all has) (onward xs l e a alive other) = absurd (not_all_shut xs l e alive other all)
-  choice_one (homeward all has) (homeward all' has') = refl
-  choice_one (homeward all has) (nowhere all' none) = absurd (has none)
-  choice_one (nowhere all none) (onward xs l e a alive other) = absurd (not_all_shut xs l e alive other all)
-  choice_one (nowhere all none) (homeward all' has) = absurd (has none)
-  choice_one (nowhere all none) (nowhere all' none') = refl
-
   -- ---- what a choice does to the ports still to be tried
 
   pub record Onward (p c : ℕ) : Type 0 where
@@ -147,11 +119,11 @@ module _ (ports : List ℕ) (live : ℕ → Bool) (parent current : ℕ) where
           waiting = waiting;
           done = λ m. once_rest.0 (rw next at m);
           kept = λ q m. rw e (in_right passed (p ∷ rest) q (inr (rw next at m)));
-          passed = λ q m. by q (append_in passed (p ∷ rest) q (rw e at m));
+          passed = λ q m. by q ((in_append q passed (p ∷ rest)).0 (rw e at m));
         }
       where
         waiting : p ∈ after current ports
-        waiting = rw e (in_middle passed p rest)
+        waiting = rw e (in_right passed (p ∷ rest) p (inl refl))
 
         before : List ℕ
         before = (after_suffix current ports).0
@@ -167,9 +139,7 @@ module _ (ports : List ℕ) (live : ℕ → Bool) (parent current : ℕ) where
             (ap (past p) whole ∙ past_at (before ++ passed) p rest (subst Once whole once))
 
         by : (q : ℕ) → (q ∈ passed) ⊎ (q ∈ (p ∷ rest)) → Barred q ⊎ (q ≡ p) ⊎ (q ∈ after p ports)
-        by q (inl m) = inl (all_at Barred passed q shut m)
-        by q (inr (inl m)) = inr (inl m)
-        by q (inr (inr m)) = inr (inr (rw next m))
+        by q m = grind (arith, next, all_at Barred passed q shut)
 
     pub leaving : {p c : ℕ} → Chosen ports live parent current (leaves p c) → Onward p c ⊎ Homeward p c
     leaving (onward {p} passed rest e shut alive other) = inl (goes_onward p passed rest e shut alive other)

@@ -1,10 +1,12 @@
 -- What a lawful network says of darts: the far end of a live dart is live, and its far end is the dart itself. So a way that
 -- crosses no cable twice the same way also comes in nowhere twice by the same port.
-use mathlib.Core.Path.{◌≡◌, refl, sym, ap, subst, ◌∙◌}
+use mathlib.Core.Path.{◌≡◌, sym, ap, subst, ◌∙◌}
 use mathlib.Core.List.{List, [], ◌∷◌, map}
+use mathlib.Core.Logic.Dec
 use mathlib.Core.Logic.{◌⊎◌, inl, inr}
 use Prim.Native.Nat.{ℕ}
 use native.Mathlib.Decide.{ℕ_discrete}
+use native.Mathlib.Omega.{arith}
 use Rattle.sheet.specs.Lists.{◌∈◌, Once, All}
 use Rattle.walk.specs.Network.{Dart, Network, Cabled, Live, Reached}
 use Rattle.walk.proofs.Running.{ends_of, Lawful}
@@ -13,12 +15,9 @@ abbrev pub dart : ℕ → ℕ → Dart
 dart w p = record { switch = w; port = p }
 
 pub same_dart : (a b : Dart) → Dec (a ≡ b)
-same_dart a b = by (ℕ_discrete a.switch b.switch) (ℕ_discrete a.port b.port)
-  where
-    by : Dec (a.switch ≡ b.switch) → Dec (a.port ≡ b.port) → Dec (a ≡ b)
-    by (yes p) (yes q) = yes (λ i. record { switch = p i; port = q i })
-    by (yes p) (no n) = no (λ e. n (ap (λ d. d.port) e))
-    by (no n) q = no (λ e. n (ap (λ d. d.switch) e))
+same_dart a b =
+    Dec.of_iff (λ e i. record { switch = e.0 i; port = e.1 i }, λ e. (ap (λ d. d.switch) e, ap (λ d. d.port) e))
+    (Dec.and (ℕ_discrete a.switch b.switch) (ℕ_discrete a.port b.port))
 
 module _ {Row : Type 0} (N : Network Row) where
   -- a dart of the traversal: live, out of a reached switch
@@ -31,19 +30,15 @@ module _ {Row : Type 0} (N : Network Row) where
 
   row_of : (rs : List Row) (e : Dart) → e ∈ ends_of N rs → (r : Row) × (r ∈ rs) × ((e ≡ N.one r) ⊎ (e ≡ N.other r))
   row_of [] e at = elim at [ ]
-  row_of (r ∷ rs) e (inl q) = (r, inl refl, inl q)
-  row_of (r ∷ rs) e (inr (inl q)) = (r, inl refl, inr q)
-  row_of (r ∷ rs) e (inr (inr m)) = let (r', l, q) = row_of rs e m in (r', inr l, q)
+  row_of (r ∷ rs) e at = grind (arith, row_of rs e)
 
   pub one_in : (rs : List Row) (r : Row) → r ∈ rs → N.one r ∈ ends_of N rs
   one_in [] r at = elim at [ ]
-  one_in (x ∷ rs) r (inl q) = inl (ap N.one q)
-  one_in (x ∷ rs) r (inr m) = inr (inr (one_in rs r m))
+  one_in (x ∷ rs) r at = grind (arith, one_in rs r)
 
   pub other_in : (rs : List Row) (r : Row) → r ∈ rs → N.other r ∈ ends_of N rs
   other_in [] r at = elim at [ ]
-  other_in (x ∷ rs) r (inl q) = inr (inl (ap N.other q))
-  other_in (x ∷ rs) r (inr m) = inr (inr (other_in rs r m))
+  other_in (x ∷ rs) r at = grind (arith, other_in rs r)
 
   module _ (L : Lawful N) where
     abbrev Paired : Dart → Type 0
@@ -70,13 +65,11 @@ module _ {Row : Type 0} (N : Network Row) where
 
     pub entry_live : (way : List Dart) → All (Live N) way → (y : Dart) → y ∈ entries way → Live N y
     entry_live [] a y at = elim at [ ]
-    entry_live (e ∷ way) a y (inl q) = subst (Live N) (sym q) (far_live e a.0)
-    entry_live (e ∷ way) a y (inr m) = entry_live way a.1 y m
+    entry_live (e ∷ way) a y at = grind (arith, far_live e a.0, entry_live way a.1 y)
 
     pub entry_left : (way : List Dart) → All (Live N) way → (y : Dart) → y ∈ entries way → N.far y ∈ way
     entry_left [] a y at = elim at [ ]
-    entry_left (e ∷ way) a y (inl q) = inl (ap N.far q ∙ far_far e a.0)
-    entry_left (e ∷ way) a y (inr m) = inr (entry_left way a.1 y m)
+    entry_left (e ∷ way) a y at = grind (arith, far_far e a.0, entry_left way a.1 y)
 
     pub entries_once : (way : List Dart) → All (Live N) way → Once way → Once (entries way)
     entries_once [] a o = tt

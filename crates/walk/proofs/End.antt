@@ -12,7 +12,7 @@ use Rattle.walk.proofs.Running.{Lawful}
 use Rattle.sheet.proofs.Lists.{all_at}
 use Rattle.walk.proofs.Darts.{dart, Due, entries, entry_live, entry_left, far_far, far_live}
 use Rattle.walk.proofs.Balance.{Complete, entered}
-use Rattle.walk.proofs.Invariant.{Chooses, Shuts, Progress, Rooted, Settled}
+use Rattle.walk.proofs.Invariant.{Chooses, Shuts, Rooted, Settled}
 use Rattle.walk.proofs.Step.{no_parent, spent}
 
 module _ {Row : Type 0} (N : Network Row) (s : ℕ) where
@@ -33,17 +33,13 @@ module _ {Row : Type 0} (N : Network Row) (s : ℕ) where
 
       -- a switch whose parent leads to a complete one has left by the parent, hence is complete
       parent_left : (w : ℕ) → Live N (dart w (f w)) → Complete N way (N.far (dart w (f w))).switch → Complete N way w
-      parent_left w l done = by (S.moved.sites w).progress
+      parent_left w l done = ⊎_elim (λ o. absurd ((o.left (f w) left).1 refl)) (λ c. c.1) (S.moved.sites w).progress
         where
           d : Dart
           d = N.far (dart w (f w))
 
           left : dart w (f w) ∈ way
           left = subst (λ e. e ∈ way) (far_far N L (dart w (f w)) l) (came_back d.switch d.port done (far_live N L (dart w (f w)) l))
-
-          by : Progress N s w (f w) (g w) way → Complete N way w
-          by (inl o) = absurd ((o.left (f w) left).1 refl)
-          by (inr c) = c.1
 
       -- along the way from its start: the parent's cable was crossed inward before the switch was left
       left_complete : (part : List Dart) → All (Live N) part → Rooted N s f part → All (λ e. Complete N way e.switch) part

@@ -8,7 +8,8 @@ use mathlib.Core.Bool.{Bool, true, false}
 use native.Mathlib.Omega.{arith}
 use lib.ListN.{length}
 use lib.Dec.{leb}
-use borrow.Author.Tests.{leb-false, lt-leb}
+use borrow.Author.Tests.{leb-false}
+use Rattle.std.proofs.lemmas.Bool.Decides.{nat_tests}
 use Rattle.sheet.specs.Lists.{both}
 use Rattle.sheet.specs.Cables.{within}
 use Rattle.sheet.specs.Refusals.{Answer, accepted, refused, list_answer}
@@ -19,7 +20,7 @@ use Rattle.switch.specs.Checks.{rule, first_broken}
 use Rattle.switch.specs.Checks.{Refused}
 use Rattle.walk.specs.Walk.{paper, checks_on, walk_checks, Result, Walks, turned_away, arrives}
 use Rattle.walk.specs.Exactly.{WalkRefused, by_lists, off_sheet, no_room}
-use Rattle.walk.proofs.Checking.{passed≢refused, on_sheet_lem, passed_premises, lists_refuse, off_refuse}
+use Rattle.walk.proofs.Checking.{on_sheet_lem, passed_premises, lists_refuse, off_refuse}
 use Rattle.walk.proofs.Tender.{never_refused}
 
 module _ (s faults tag trace : List ℕ) (source destination : ℕ) where
@@ -48,7 +49,7 @@ module _ (s faults tag trace : List ℕ) (source destination : ℕ) where
           numbered
           (no_room ((both_accepted s faults n cables).0 e) ((on_sheet_lem source destination n).0 on)
           (inr (leb-false (4 * cables) (length trace) room))) h
-      by_tests e true true true on long room h = absurd (passed≢refused refl h)
+      by_tests e true true true on long room h = cc
 
       by_answer : (answer : Answer) → list_answer s faults ≡ answer → checks_on answer tag trace source destination ≡ Refused number
           → Broken number
@@ -57,16 +58,10 @@ module _ (s faults tag trace : List ℕ) (source destination : ℕ) where
           by_tests e (both (within n source) (within n destination)) (leb (2 * n) (length tag)) (leb (4 * cables) (length trace))
           refl refl refl h
 
-  either_way : (b : Bool) → first_broken (rule 7 b ∷ Refused 7 ∷ []) ≡ Refused 7
-  either_way true = refl
-  either_way false = refl
-
   short_refuse : {n cables : ℕ} → list_answer s faults ≡ accepted n cables → both (within n source) (within n destination) ≡ true
       → (length tag < 2 * n) ⊎ (length trace < 4 * cables) → walk_checks s faults tag trace source destination ≡ Refused 7
   unfolding walk_checks
-  short_refuse {n} e on (inl short) = rw (e, on, lt-leb (2 * n) (length tag) short)
-  short_refuse {n} {cables} e on (inr short) =
-      rw (e, on, lt-leb (4 * cables) (length trace) short) (either_way (leb (2 * n) (length tag)))
+  short_refuse {n} {cables} e on short = rw (e, on) (grind (arith, nat_tests))
 
   -- and the checks that a row gives
   given : {number : ℕ} → Broken number → walk_checks s faults tag trace source destination ≡ Refused number
@@ -90,7 +85,7 @@ module _ (s faults tag trace : List ℕ) (source destination : ℕ) where
     λ same.
         absurd (never_refused s faults tag trace source destination (passed_premises s faults tag trace source destination e)
         (arrives e way end) (ap (λ p. p.end) same)),
-    λ h. absurd (passed≢refused e (given h)),
+    λ h. cc (given h),
   )
 
 -- only numbers 1 to 7

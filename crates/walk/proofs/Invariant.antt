@@ -3,7 +3,7 @@
 -- the switch; and since a packet never comes to a complete switch, no cable is crossed twice the same way.
 use mathlib.Core.Path.{◌≡◌, refl, ap}
 use mathlib.Core.List.{List, [], ◌∷◌}
-use mathlib.Core.Logic.{◌⊎◌, inl, inr}
+use mathlib.Core.Logic.{◌⊎◌, inl, inr, ⊎_elim, ⊎_map}
 use Prim.Native.Nat.{ℕ}
 use Rattle.sheet.specs.Lists.{◌∈◌, Once, All}
 use Rattle.switch.specs.Choice.{after, Shut, Outcome, Chosen}
@@ -69,8 +69,7 @@ module _ {Row : Type 0} (N : Network Row) where
       pub here : (v ≡ s) ⊎ (dart v (parent v) ∈ entries N way)
 
     root_later : (w parent current : ℕ) (way : List Dart) (e : Dart) → Root w parent current way → Root w parent current (e ∷ way)
-    root_later w parent current way e (inl z) = inl z
-    root_later w parent current way e (inr m) = inr (inr m.0, m.1)
+    root_later w parent current way e r = ⊎_map (λ z. z) (λ m. (inr m.0, m.1)) r
 
     -- a hop at another switch
     pub aside : (w parent current : ℕ) (way : List Dart) (e : Dart) → (w ≡ e.switch → ⊥)
@@ -79,12 +78,10 @@ module _ {Row : Type 0} (N : Network Row) where
         record { progress = progress site.progress; root = root_later w parent current way e site.root; tried = site.tried }
       where
         left : Open w parent current way → (p : ℕ) → dart w p ∈ (e ∷ way) → (p ∈ after current (N.order w) → ⊥) × (p ≡ parent → ⊥)
-        left o p (inl q) = absurd (away (ap (λ d. d.switch) q))
-        left o p (inr m) = o.left p m
+        left o p m = ⊎_elim (λ q. absurd (away (ap (λ d. d.switch) q))) (o.left p) m
 
         rest : (p : ℕ) → Accounted w parent current way p → Accounted w parent current (e ∷ way) p
-        rest p (inl m) = inl (inr m)
-        rest p (inr q) = inr q
+        rest p = ⊎_map inr (λ q. q)
 
         progress : Progress w parent current way → Progress w parent current (e ∷ way)
         progress (inl o) = inl (record { left = left o; rest = λ p l. rest p (o.rest p l) })

@@ -7,13 +7,11 @@ use native.Mathlib.Omega.{arith}
 use native.Mathlib.Decide.{ℕ_discrete}
 use native.Mathlib.Numerals.{add-one}
 use lib.ListN.{length, length-append}
-use Rattle.walk.specs.Walk.{Packet, step_of, carried, sent, Way, Paper, ended, paper_of, Result, result_of, refused_with, ended_with}
+use Rattle.walk.specs.Walk.{Packet, step_of, carried, sent, Way, ended, paper_of, Result, result_of, refused_with, ended_with}
 use Rattle.walk.specs.Walk.{Walks, turned_away, arrives}
 use Rattle.walk.specs.declared.walk.End.{End}
 use Rattle.walk.specs.declared.walk.End.TheVariants.{Delivered, None}
-use Rattle.sheet.proofs.OneAnswer.{one_refusal}
 use Rattle.walk.specs.declared.walk.Walked.{Walked}
-use Rattle.walk.proofs.Checking.{passed≢refused}
 
 module _ (s faults : List ℕ) (destination source : ℕ) where
   -- the packet after so many hops
@@ -56,15 +54,13 @@ module _ {s faults tag trace : List ℕ} {source destination : ℕ} where
   pub walks_one : {r r' : Result} → Walks s faults tag trace source destination r → Walks s faults tag trace source destination r'
       → r ≡ r'
   walks_one (turned_away e) (turned_away e') = ap (refused_with tag trace) (cc)
-  walks_one (turned_away e) (arrives e' way end) = absurd (passed≢refused e' e)
-  walks_one (arrives e way end) (turned_away e') = absurd (passed≢refused e e')
+  walks_one (turned_away e) (arrives e' way end) = cc
+  walks_one (arrives e way end) (turned_away e') = cc
   walks_one (arrives e way end) (arrives e' way' end') =
       ap (ended_with s faults tag trace destination) (one_end s faults destination source way way' end end')
 
 parts : (a : End) {switch hops : ℕ} → ((ended a switch hops).switch ≡ switch) × ((ended a switch hops).hops ≡ hops)
-parts Delivered = (refl, refl)
-parts None = (refl, refl)
-parts (End.Refused refusal) = (refl, refl)
+parts a = (grind arith, grind arith)
 
 pub paper_hops : (w : Walked) → (paper_of w).hops ≡ w.hops
 paper_hops w = (parts w.end).1
@@ -77,19 +73,16 @@ paper_one w w' e =
     let hops = sym (paper_hops w) ∙ ap (λ p. p.hops) e ∙ paper_hops w' in
     (λ i. record { end = end i; switch = record { 0 = switch i }; hops = hops i })
   where
-    apart : {a b : Paper} → a ≡ b → (a.end ≡ b.end → ⊥) → ⊥
-    apart e other = other (ap (λ p. p.end) e)
-
     same_end : (a b : End) → ended a w.switch.0 w.hops ≡ ended b w'.switch.0 w'.hops → a ≡ b
     same_end Delivered Delivered e = refl
     same_end None None e = refl
-    same_end (End.Refused refusal) (End.Refused refusal') e = ap End.Refused (one_refusal refusal refusal' (ap (λ p. p.number) e))
-    same_end Delivered None e = absurd (apart e (λ z. omega arith))
-    same_end Delivered (End.Refused refusal) e = absurd (apart e (λ z. omega arith))
-    same_end None Delivered e = absurd (apart e (λ z. omega arith))
-    same_end None (End.Refused refusal) e = absurd (apart e (λ z. omega arith))
-    same_end (End.Refused refusal) Delivered e = absurd (apart e (λ z. omega arith))
-    same_end (End.Refused refusal) None e = absurd (apart e (λ z. omega arith))
+    same_end (End.Refused number) (End.Refused number') e = ap End.Refused (ap (λ p. p.number) e)
+    same_end Delivered None e = absurd (omega (arith, ap (λ p. p.end) e))
+    same_end Delivered (End.Refused number) e = absurd (omega (arith, ap (λ p. p.end) e))
+    same_end None Delivered e = absurd (omega (arith, ap (λ p. p.end) e))
+    same_end None (End.Refused number) e = absurd (omega (arith, ap (λ p. p.end) e))
+    same_end (End.Refused number) Delivered e = absurd (omega (arith, ap (λ p. p.end) e))
+    same_end (End.Refused number) None e = absurd (omega (arith, ap (λ p. p.end) e))
 
 -- what the promise of `walk` says of an answer and of both buffers afterwards
 abbrev pub Told : List ℕ → List ℕ → List ℕ → List ℕ → ℕ → ℕ → Walked → List ℕ → List ℕ → Type 0

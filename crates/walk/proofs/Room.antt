@@ -13,7 +13,7 @@ use Rattle.switch.specs.Checks.{Passed}
 use Rattle.walk.specs.Network.{Dart}
 use Rattle.walk.specs.Walk.{Packet, Way, walk_checks, trace_bytes, Result, ended_with, Walks, turned_away, arrives}
 use Rattle.walk.specs.Condition3.{Premises}
-use Rattle.walk.proofs.Checking.{passed≢refused, premises_pass, passed_premises, lists_switches, lists_cables, lists_sound}
+use Rattle.walk.proofs.Checking.{premises_pass, passed_premises, lists_switches, lists_cables, lists_sound}
 use Rattle.walk.proofs.Following.{follows}
 use Rattle.walk.proofs.OneAnswer.{one_end}
 use Rattle.walk.proofs.Computing.{way_bound}
@@ -68,7 +68,7 @@ module _ (s faults : List ℕ) (source destination : ℕ) where
   pub longer_buffers : {tag trace : List ℕ} (more more' : List ℕ) → walk_checks s faults tag trace source destination ≡ Passed
       → {r : Result} → Walks s faults tag trace source destination r
       → Walks s faults (tag ++ more) (trace ++ more') source destination (longer_by more more' r)
-  longer_buffers more more' passed (turned_away e) = absurd (passed≢refused passed e)
+  longer_buffers more more' passed (turned_away e) = cc
   longer_buffers {tag} {trace} more more' passed (arrives {k} e way end) =
       subst (Walks s faults (tag ++ more) (trace ++ more') source destination) same (arrives passed_too way end)
     where
@@ -115,8 +115,8 @@ module _ (s faults : List ℕ) (source destination : ℕ) where
   pub old_content : {tag trace tag' trace' : List ℕ} → walk_checks s faults tag trace source destination ≡ Passed
       → walk_checks s faults tag' trace' source destination ≡ Passed → {r r' : Result}
       → Walks s faults tag trace source destination r → Walks s faults tag' trace' source destination r' → SameWalk r r'
-  old_content passed passed' (turned_away e) walks' = absurd (passed≢refused passed e)
-  old_content passed passed' (arrives e way end) (turned_away e') = absurd (passed≢refused passed' e')
+  old_content passed passed' (turned_away e) walks' = cc
+  old_content passed passed' (arrives e way end) (turned_away e') = cc
   old_content {tag} {trace} {tag'} {trace'} passed passed' (arrives {k} e way end) (arrives {k = k'} e' way' end') =
       record {
         answer = ap (λ x. (ended_with s faults tag trace destination x).paper) same;

@@ -10,8 +10,7 @@ use lib.ListN.{length}
 use Rattle.sheet.specs.Lists.{◌∈◌, Once, All}
 use Rattle.walk.specs.Network.{Dart, Network, Live, Reached, along, Counted, nothing, counts, skipped}
 use Rattle.walk.proofs.Running.{ends_of, Lawful}
-use Rattle.sheet.proofs.Lists.{all_at}
-use Rattle.walk.proofs.Lists.{length_within}
+use Rattle.sheet.proofs.Lists.{all_at, once_length}
 use Rattle.walk.proofs.Darts.{Due, one_in, other_in}
 
 module _ {Row : Type 0} (N : Network Row) where
@@ -21,7 +20,7 @@ module _ {Row : Type 0} (N : Network Row) where
 
   pub within_rows : Lawful N → (way : List Dart) → Once way → All (Live N) way → length way ≤ 2 * length N.rows
   within_rows L way once live = rw (← ends_length N.rows)
-      (length_within way (ends_of N N.rows) once (λ e m. L.cabled_end e (all_at (Live N) way e live m).0))
+      (once_length way (ends_of N N.rows) once (λ e m. L.cabled_end e (all_at (Live N) way e live m).0))
 
   pub counted_one : {s : ℕ} {rs : List Row} {m m' : ℕ} → Counted N s rs m → Counted N s rs m' → m ≡ m'
   counted_one nothing nothing = refl
@@ -106,9 +105,9 @@ module _ {Row : Type 0} (N : Network Row) where
 
       module _ {m : ℕ} (c : Counted N s N.rows m) (way : List Dart) where
         pub at_most : Once way → All (Due N s) way → length way ≤ 2 * m
-        at_most once due = rw (← kept_length c) (length_within way (kept c) once
+        at_most once due = rw (← kept_length c) (once_length way (kept c) once
             (λ e k. let d = all_at (Due N s) way e due k in due_kept c (λ r l. l) e (L.cabled_end e d.0.0) d))
 
         pub at_least : ((e : Dart) → Due N s e → e ∈ way) → 2 * m ≤ length way
         at_least all = rw (← kept_length c)
-            (length_within (kept c) way (kept_once c L.ends_once) (λ e k. all e (kept_due c (λ r l. l) e k)))
+            (once_length (kept c) way (kept_once c L.ends_once) (λ e k. all e (kept_due c (λ r l. l) e k)))

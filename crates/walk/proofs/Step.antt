@@ -2,12 +2,12 @@
 -- takes the port of arrival for its parent. f and g are the switches' parents and current ports before, f' and g' after.
 use mathlib.Core.Path.{◌≡◌, refl, sym, ap, subst, ◌∙◌, fun_ext}
 use mathlib.Core.List.{List, ◌∷◌, cons≢nil}
-use mathlib.Core.Bool.{Bool, true, false, true≢false}
-use mathlib.Core.Logic.{◌⊎◌, inl, inr, ⊎_elim}
+use mathlib.Core.Logic.{◌⊎◌, inl, inr, ⊎_elim, ⊎_map}
 use Prim.Native.Nat.{ℕ}
 use native.Mathlib.Decide.{ℕ_discrete}
 use lib.Dec.{eqb}
-use borrow.Author.Tests.{eqb-true, eqb-false}
+use Rattle.std.proofs.lemmas.Bool.Decides.{nat_tests}
+use native.Mathlib.Omega.{arith}
 use Rattle.sheet.specs.Lists.{◌∈◌, All, pick}
 use Rattle.switch.specs.Choice.{after, leaves}
 use Rattle.walk.specs.Network.{Dart, Network, Live}
@@ -16,7 +16,7 @@ use Rattle.sheet.proofs.Lists.{all_at}
 use Rattle.walk.proofs.Darts.{dart, entries, entry_live}
 use Rattle.walk.proofs.Balance.{never_complete}
 use Rattle.walk.proofs.Choice.{after_none, after_in, Onward, Homeward, leaving}
-use Rattle.walk.proofs.Invariant.{Chooses, Shuts, Accounted, Open, Progress, Root, Site, Moved, Settled}
+use Rattle.walk.proofs.Invariant.{Chooses, Shuts, Accounted, Open, Root, Site, Moved, Settled}
 use Rattle.walk.proofs.Invariant.{untouched, aside, rooted_same}
 
 module _ {Row : Type 0} (N : Network Row) (s : ℕ) (L : Lawful N) where
@@ -27,40 +27,21 @@ module _ {Row : Type 0} (N : Network Row) (s : ℕ) (L : Lawful N) where
 
   module _ (f g : ℕ → ℕ) (v : ℕ) (way : List Dart) (S : Settled N s f g v way) where
     open_here : Open N v (f v) (g v) way
-    open_here = by (S.moved.sites v).progress
-      where
-        by : Progress N s v (f v) (g v) way → Open N v (f v) (g v) way
-        by (inl o) = o
-        by (inr c) = absurd (never_complete N L s v way S.moved.chain S.moved.live S.moved.once c.0 c.1)
+    open_here =
+        ⊎_elim (λ o. o) (λ c. absurd (never_complete N L s v way S.moved.chain S.moved.live S.moved.once c.0 c.1))
+        (S.moved.sites v).progress
 
     -- a packet that has a way home is not at the source, and came in by its parent
     has_parent : (f v ≡ 0 → ⊥) → (dart v (f v) ∈ entries N way) × (v ≡ s → ⊥)
-    has_parent has = by (S.moved.sites v).root
-      where
-        by : Root N s v (f v) (g v) way → (dart v (f v) ∈ entries N way) × (v ≡ s → ⊥)
-        by (inl z) = absurd (has z.0)
-        by (inr m) = m
+    has_parent has = ⊎_elim (λ z. absurd (has z.0)) (λ m. m) (S.moved.sites v).root
 
     -- and one without is home
     pub no_parent : f v ≡ 0 → v ≡ s
-    no_parent z = by S.here
-      where
-        by : (v ≡ s) ⊎ (dart v (f v) ∈ entries N way) → v ≡ s
-        by (inl home) = home
-        by (inr m) = absurd (entered_by v (f v) way S.moved.live m z)
+    no_parent z = ⊎_elim (λ home. home) (λ m. absurd (entered_by v (f v) way S.moved.live m z)) S.here
 
     -- where every port still to be tried is shut, each live port has been left by or is the parent
     pub spent : All (Shuts N f g v) (after (g v) (N.order v)) → (p : ℕ) → Live N (dart v p) → (dart v p ∈ way) ⊎ (p ≡ f v)
-    spent all p l = by (open_here.rest p l)
-      where
-        shut : Shuts N f g v p → (dart v p ∈ way) ⊎ (p ≡ f v)
-        shut (inl dead) = absurd (true≢false (sym l.1 ∙ dead))
-        shut (inr e) = inr e
-
-        by : Accounted N v (f v) (g v) way p → (dart v p ∈ way) ⊎ (p ≡ f v)
-        by (inl m) = inl m
-        by (inr (inl m)) = shut (all_at (Shuts N f g v) (after (g v) (N.order v)) p all m)
-        by (inr (inr e)) = inr e
+    spent all p l = grind (arith, open_here.rest p l, all_at (Shuts N f g v) (after (g v) (N.order v)) p all, l.1)
 
     module _ (p c : ℕ) where
       abbrev Goes : Type 0
@@ -99,21 +80,11 @@ module _ {Row : Type 0} (N : Network Row) (s : ℕ) (L : Lawful N) where
           left q (inl e) = let h : q ≡ p = ap (λ d. d.port) e in rw h (t.done, t.other)
           left q (inr m) = (λ l. (open_here.left q m).0 (t.kept q l), (open_here.left q m).1)
 
-          passed : (q : ℕ) → Live N (dart v q) → Shuts N f g v q ⊎ (q ≡ p) ⊎ (q ∈ after c (N.order v))
-              → Accounted N v (f v) c (dart v p ∷ way) q
-          passed q l (inl (inl dead)) = absurd (true≢false (sym l.1 ∙ dead))
-          passed q l (inl (inr e)) = inr (inr e)
-          passed q l (inr (inl e)) = inl (at_port q e)
-          passed q l (inr (inr m)) = inr (inl m)
-
           rest : (q : ℕ) → Live N (dart v q) → Accounted N v (f v) (g v) way q → Accounted N v (f v) c (dart v p ∷ way) q
-          rest q l (inl m) = inl (inr m)
-          rest q l (inr (inl m)) = passed q l (t.passed q m)
-          rest q l (inr (inr e)) = inr (inr e)
+          rest q l a = grind (arith, t.passed q, at_port q, l.1)
 
           root : Root N s v (f v) (g v) way → Root N s v (f v) c (dart v p ∷ way)
-          root (inl z) = inl (z.0, inr (no_parent z.0))
-          root (inr m) = inr (inr m.0, m.1)
+          root r = ⊎_map (λ z. (z.0, inr (no_parent z.0))) (λ m. (inr m.0, m.1)) r
 
       returns : Returns → Turned
       returns t =
@@ -133,11 +104,8 @@ module _ {Row : Type 0} (N : Network Row) (s : ℕ) (L : Lawful N) where
 
     turned : (p c : ℕ) → Chooses N f g v (leaves p c) → Turned p c
     turned p c chosen =
-        by (leaving (N.order v) (λ q. N.live (dart v q)) (f v) (g v) (L.order_once v) (λ q. L.port_not_0 (dart v q)) chosen)
-      where
-        by : Goes p c ⊎ Returns p c → Turned p c
-        by (inl t) = goes p c t
-        by (inr t) = returns p c t
+        ⊎_elim (goes p c) (returns p c)
+        (leaving (N.order v) (λ q. N.live (dart v q)) (f v) (g v) (L.order_once v) (λ q. L.port_not_0 (dart v q)) chosen)
 
     pub hop_keeps : (p c : ℕ) → Chooses N f g v (leaves p c)
         → (g' : ℕ → ℕ) → g' v ≡ c → ((w : ℕ) → (w ≡ v → ⊥) → g' w ≡ g w)
@@ -168,14 +136,12 @@ module _ {Row : Type 0} (N : Network Row) (s : ℕ) (L : Lawful N) where
   module _ (f g : ℕ → ℕ) (v : ℕ) (e : Dart) (way : List Dart) (M : Moved N s f g v (e ∷ way)) where
     -- a switch that has tried no port was never left: else it is complete, and the packet would not be there
     unleft : g v ≡ 0 → (p : ℕ) → dart v p ∈ (e ∷ way) → ⊥
-    unleft z p m = by (M.sites v).progress
+    unleft z p m =
+        ⊎_elim (λ o. (o.left p m).0 (rw (after_none (g v) (N.order v) z) cabled))
+        (λ c. never_complete N L s v (e ∷ way) M.chain M.live M.once c.0 c.1) (M.sites v).progress
       where
         cabled : p ∈ N.order v
         cabled = (all_at (Live N) (e ∷ way) (dart v p) M.live m).0
-
-        by : Progress N s v (f v) (g v) (e ∷ way) → ⊥
-        by (inl o) = (o.left p m).0 (rw (after_none (g v) (N.order v) z) cabled)
-        by (inr c) = never_complete N L s v (e ∷ way) M.chain M.live M.once c.0 c.1
 
     away_from_source : g v ≡ 0 → v ≡ s → ⊥
     away_from_source z home = cons≢nil (M.source (rw home at z))
@@ -227,8 +193,4 @@ module _ {Row : Type 0} (N : Network Row) (s : ℕ) (L : Lawful N) where
           by (inr m) = inr (subst (λ p. dart v p ∈ entries N (e ∷ way)) (sym now) m.0)
 
       pub settle : f' v ≡ pick (eqb (g v) 0) (N.far e).port (f v) → Settled N s f' g v (e ∷ way)
-      settle = by (eqb (g v) 0) refl
-        where
-          by : (b : Bool) → eqb (g v) 0 ≡ b → f' v ≡ pick b (N.far e).port (f v) → Settled N s f' g v (e ∷ way)
-          by true q now = fresh (eqb-true (g v) 0 q) now
-          by false q now = again (eqb-false (g v) 0 q) now
+      settle now = grind (arith, nat_tests, fresh, again, now)

@@ -24,7 +24,7 @@ use Rattle.walk.proofs.Darts.{Due}
 use Rattle.walk.proofs.Sizes.{counts_due}
 use Rattle.walk.proofs.SheetNetwork.{sheet_lawful}
 use Rattle.walk.proofs.Following.{traveller_of, Follows, chosen_at, follows}
-use Rattle.walk.proofs.Checking.{passed≢refused, premises_pass, lists_switches, lists_sound}
+use Rattle.walk.proofs.Checking.{premises_pass, lists_switches, lists_sound}
 use Rattle.walk.proofs.Traversal.{run_once, run_chain, run_live, delivered_reached, delivered_bound, home, none_home, NoneHome}
 use Rattle.walk.proofs.Traversal.{counted_is, counted_one}
 
@@ -120,7 +120,7 @@ module _ (s faults tag trace : List ℕ) (source destination : ℕ) where
     -- THE theorem: whatever M is, and whatever the walk comes to
     pub walk_keeps : {m : ℕ} → Reachable s faults source m → {r : Result} → Walks s faults tag trace source destination r
         → Condition3 s faults source destination m r.paper (hops_in r.paper.hops r.trace)
-    walk_keeps counted (turned_away e) = absurd (passed≢refused (premises_pass s faults tag trace source destination p) e)
+    walk_keeps counted (turned_away e) = cc (premises_pass s faults tag trace source destination p)
     walk_keeps counted (arrives {k} e way end) =
         rw (hops_told k.trace (drop (2 * length k.trace) trace))
         (condition_3 s faults source destination sound on way counted

@@ -1,7 +1,7 @@
 -- The traversal. A packet crosses no cable twice the same way, only live cables between reached switches, in one chain from
 -- its source. It ends: at its destination, or home after every such crossing, and then the destination is not reached.
 use mathlib.Core.Path.{◌≡◌, refl, sym, ap, subst, ◌∙◌}
-use mathlib.Core.List.{List, [], ◌∷◌, cons≢nil}
+use mathlib.Core.List.{List, [], ◌∷◌}
 use mathlib.Core.Logic.{◌⊎◌, inl, inr, ◌↔◌}
 use Prim.Native.Nat.{ℕ, ◌+◌, ◌*◌, ◌≤◌}
 use native.Mathlib.Omega.{arith}
@@ -18,7 +18,8 @@ use Rattle.walk.proofs.Invariant.{Root}
 use Rattle.walk.proofs.Walked.{settled, Kept, settled_choice, parents_settle, walked}
 use Rattle.walk.proofs.End.{chain_reached, chain_due, ended}
 use Rattle.walk.proofs.Sizes.{counted, at_most, at_least}
-pub use Rattle.walk.proofs.Choice.{choice, choice_one}
+pub use Rattle.switch.proofs.Choosing.{chosen_one}
+pub use Rattle.walk.proofs.Choice.{choice}
 pub use Rattle.walk.proofs.Sizes.{counted_one}
 pub use Rattle.walk.proofs.Halting.{rows_bound, run_ends}
 
@@ -62,7 +63,7 @@ module _ {Row : Type 0} (N : Network Row) where
 
       pub run_zero : {k : Packet} {way : List Dart} → Run N s d k way → way ≡ [] → (w : ℕ) → (k.parent w ≡ 0) × (k.current w ≡ 0)
       run_zero (start home arrival parents currents) e w = (parents w, currents w)
-      run_zero (hop r away chosen h) e w = absurd (cons≢nil e)
+      run_zero (hop r away chosen h) e w = cc
 
       pub run_sane : {k : Packet} {way : List Dart} → Run N s d k way → Sane k way
       run_sane {k} {way} r = record { arrival = arrival r; current = λ w. ((held r).moved.sites w).tried; parent = parent r }

@@ -1,13 +1,13 @@
 -- Every walk keeps the invariant: it holds at the start, where nothing was left and every parent and current port is 0, and
 -- each hop keeps it.
-use mathlib.Core.Path.{◌≡◌, refl, sym, ap, ◌∙◌}
+use mathlib.Core.Path.{◌≡◌, refl, ◌∙◌}
 use mathlib.Core.List.{List, [], ◌∷◌}
-use mathlib.Core.Bool.{Bool, true, false}
 use mathlib.Core.Logic.{inl}
 use Prim.Native.Nat.{ℕ}
-use native.Mathlib.Decide.{ℕ_discrete}
 use lib.Dec.{eqb}
 use borrow.Author.Tests.{eq-eqb, ne_eqb}
+use Rattle.std.proofs.lemmas.Bool.Decides.{nat_tests}
+use native.Mathlib.Omega.{arith}
 use Rattle.sheet.specs.Lists.{pick}
 use Rattle.switch.specs.Choice.{Outcome, leaves}
 use Rattle.walk.specs.Network.{Dart, Network}
@@ -26,10 +26,6 @@ settled_here k = rw (eq-eqb k.at k.at refl)
 pub settled_away : (k : Packet) (w : ℕ) → (w ≡ k.at → ⊥) → settled k w ≡ k.parent w
 settled_away k w n = rw (ne_eqb w k.at n)
 
-pick_same : {A : Type 0} (b : Bool) {x y z : A} → x ≡ z → y ≡ z → pick b x y ≡ z
-pick_same true p q = p
-pick_same false p q = q
-
 module _ {Row : Type 0} (N : Network Row) where
   -- the invariant, of a packet
   abbrev pub Kept : ℕ → Packet → List Dart → Type 0
@@ -39,11 +35,7 @@ module _ {Row : Type 0} (N : Network Row) where
   settled_choice k chosen = rw (settled_here k) chosen
 
   pub parents_settle : (k k' : Packet) (p c : ℕ) → Hop N k p c k' → (w : ℕ) → k'.parent w ≡ settled k w
-  parents_settle k k' p c h w = by (ℕ_discrete w k.at)
-    where
-      by : Dec (w ≡ k.at) → k'.parent w ≡ settled k w
-      by (yes e) = ap k'.parent e ∙ h.parent ∙ sym (settled_here k) ∙ ap (settled k) (sym e)
-      by (no n) = h.parents_stay w n ∙ sym (settled_away k w n)
+  parents_settle k k' p c h w = grind (arith, nat_tests, h.parent, h.parents_stay w)
 
   at_start : (s : ℕ) (k : Packet) → k.at ≡ s → k.arrival ≡ 0 → ((w : ℕ) → k.parent w ≡ 0) → ((w : ℕ) → k.current w ≡ 0)
       → Kept s k []
@@ -65,7 +57,7 @@ module _ {Row : Type 0} (N : Network Row) where
       }
     where
       none : (w : ℕ) → settled k w ≡ 0
-      none w = pick_same (eqb w k.at) (pick_same (eqb (k.current k.at) 0) arrival (parents k.at)) (parents w)
+      none w = grind (arith, nat_tests, arrival, parents k.at, parents w)
 
   after_hop : Lawful N → (s : ℕ) (k k' : Packet) (way : List Dart) (p c : ℕ) → Kept s k way
       → ChosenAt N k (leaves p c) → Hop N k p c k' → Kept s k' (dart k.at p ∷ way)

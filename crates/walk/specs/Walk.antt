@@ -1,7 +1,7 @@
 -- The walk: the step repeated, the packet carried over each cable to its far end, until delivered or none.
 use Rattle.std.specs.Prelude.{ℕ, ◌*◌, ◌≡◌, List, [], ◌∷◌, ◌++◌, length, drop, replicate, leb}
 use Rattle.sheet.specs.Cables.{switches_of}
-use Rattle.sheet.specs.Refusals.{Answer, accepted, refused, list_answer, refusal_number}
+use Rattle.sheet.specs.Refusals.{Answer, accepted, refused, list_answer}
 use Rattle.sheet.specs.Cabling.{order_at}
 use Rattle.switch.specs.Checks.{rule, switches_rule, tag_rule, first_broken}
 use Rattle.switch.specs.Step.{Stepped, advanced}
@@ -58,7 +58,7 @@ paper end switch hops number = record { end = end; switch = switch; hops = hops;
 abbrev pub ended : End → ℕ → ℕ → Paper
 ended Delivered switch hops = paper 1 switch hops 0
 ended None switch hops = paper 2 switch hops 0
-ended (End.Refused refusal) switch hops = paper 3 switch hops (refusal_number refusal)
+ended (End.Refused number) switch hops = paper 3 switch hops number
 
 abbrev pub paper_of : Walked → Paper
 paper_of w = ended w.end w.switch.0 w.hops

@@ -1,5 +1,5 @@
 // A packet's walk from its source to its end.
-ghost use Rattle.std.specs.Prelude.{◌≡◌, ◌++◌, ℕ, ◌*◌, ◌≤◌, length, take, drop, replicate};
+ghost use Rattle.std.specs.Prelude.{◌≡◌, ℕ, ◌*◌, take, replicate};
 ghost use Rattle.sheet.specs.Cables.{switches_of};
 ghost use Rattle.sheet.specs.Cabling.{order_at};
 ghost use Rattle.sheet.specs.Refusals.{refusal_number};
@@ -16,15 +16,16 @@ use switch::checks::{check_switches, check_tag, rule};
 use switch::ports::Ports;
 use switch::step::{Move, advance};
 
-// How a walk ends.
+// How a walk ends. A refusal is told by its number, as the outline names this answer.
 #[derive(Clone, Copy, Debug, PartialEq, Eq)]
 pub enum End {
     Delivered,
     None,
-    Refused(Refusal),
+    Refused(u64),
 }
 
-// The end, the switch where it came, and the number of hops.
+// The end, the switch where it came, and the number of hops, which says how much of the lent trace is the walk's. A refusal has switch 0
+// and no hops, as the outline wants it of each answer.
 #[derive(Clone, Copy, Debug, PartialEq, Eq)]
 pub struct Walked {
     pub end: End,
@@ -32,7 +33,7 @@ pub struct Walked {
     pub hops: u64,
 }
 
-// An end at a switch after so many hops.
+// An end at a switch after so many hops. The count is an index's usize, and cast: there is no `From` to u64, which has 64 bits too.
 fn ended(end: End, switch: Switch, hops: usize) -> Walked
     ensures { paper_of result ≡ ended end switch.0 hops }
 {
@@ -46,25 +47,19 @@ fn ended(end: End, switch: Switch, hops: usize) -> Walked
 fn refused(refusal: Refusal) -> Walked
     ensures { paper_of result ≡ paper 3 0 0 (refusal_number refusal) }
 {
-    ended(End::Refused(refusal), Switch(0), 0)
+    ended(End::Refused(refusal.number()), Switch(0), 0)
 }
 
-// 7: trace shorter than 4 bytes for each cable. A quarter of its length instead of 4 times the cables leaves nothing to wrap.
+// 7: trace shorter than 4 bytes for each cable. A quarter of its length instead of 4 times the cables leaves nothing to wrap. The cast is
+// as in `check_tag`, from which it stands apart: each is a line of the outline, here with its 4 for each cable.
 fn check_trace(cables: u64, trace: &[u8]) -> Result<(), Refusal>
     ensures { check_of result ≡ trace_rule cables trace.now }
 {
     rule(Refusal::NoRoom, cables <= trace.len() as u64 / 4)
 }
 
-// Zeros for the first bytes of the tag. It takes a size beside the tag, since it promises the bytes beyond too.
-fn clear(tag: &mut [u8], size: usize)
-    requires { size ≤ length tag.old }
-    ensures { tag.new ≡ replicate size 0 ++ drop size tag.old }
-{
-    tag[..size].fill(0);
-}
-
 // The step of the switch where the packet is: one pass over the rows for its port order, and the choice.
+#[tactic(auto, using(sheet::proofs::Places::placed_order))]
 fn move_on(
     lists: &Lists<'_>,
     tag: &mut [u8],
@@ -105,6 +100,7 @@ fn carry(
             Move::Delivered => return ended(End::Delivered, at, hops),
             Move::Nowhere => return ended(End::None, at, hops),
         };
+        // casts that are proved to lose nothing: `try_from` would be followed by an `unwrap`
         trace[2 * hops] = at.0 as u8;
         trace[2 * hops + 1] = port.0 as u8;
         at = far.switch;
@@ -115,7 +111,9 @@ fn carry(
 
 // The walk. It checks sheet, fault list, switches and room, and then hops; a refusal writes nothing, and is passed on by `let .. else`, as
 // the outline wants it, and not by `?`. Source and destination stay two parameters, as an ask names them, and tag and trace two buffers,
-// each with a length of its own to be checked.
+// each with a length of its own to be checked. Its first three checks are those of `step`, where the outline names the form too: one
+// function for both would take it out of either. The n of an accepted sheet is at most 64, so that its cast loses nothing.
+#[tactic(auto, using(crate::proofs::Answering::refused_walks), unfolding(crate::specs::Walk::walk_checks))]
 pub fn walk(
     lists: &Lists<'_>,
     tag: &mut [u8],
@@ -147,6 +145,6 @@ pub fn walk(
     let Ok(()) = room else {
         return refused(room.unwrap_err());
     };
-    clear(tag, 2 * n as usize);
+    tag[..2 * n as usize].fill(0);
     carry(lists, tag, trace, source, destination)
 }
