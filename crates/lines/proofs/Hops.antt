@@ -6,7 +6,7 @@ use mathlib.Core.Path.{◌≡◌, refl, sym, ap, ◌∙◌}
 use mathlib.Core.List.{List, [], ◌∷◌, ◌++◌, append_assoc, append-nil}
 use native.Mathlib.Omega.{arith}
 use lib.ListN.{length, get_or, take, drop, length-append, length-take}
-use lib.Seq.{get_or-take, get_or-drop}
+use lib.Seq.{get_or-take, get_or-drop, take_all}
 use Rattle.std.specs.Simd.{first_chunks}
 use Rattle.walk.specs.Network.{Dart}
 use Rattle.walk.specs.Walk.{ended, paper_of}
@@ -48,6 +48,11 @@ pub added_hop : (line : Line) (i : ℕ) (pairs : List (List ℕ)) → i < length
     ≡ added (added line (hops_text (hops_of (take i pairs))))
     (hop_text (record { switch = get_or (get_or pairs i []) 0 0; port = get_or (get_or pairs i []) 1 0 }))
 added_hop line i pairs h = rw (add-one i, hops_text_more i pairs h) (added_append line (hops_text (hops_of (take i pairs))) _)
+
+-- as many hops as there are, are all of them. With this law the check accepts a slice of all hops in `put_way`, and so refuses one that is
+-- a hop short for that hop, and not for being a slice.
+pub all_hops : (pairs : List (List ℕ)) (k : ℕ) → k ≡ length pairs → take k pairs ≡ pairs
+all_hops pairs k all = take_all k pairs (omega (arith, all))
 
 -- ---- how long a line is
 

@@ -1,13 +1,17 @@
 -- Laws on text. Texts added one after another are added as one text; a number's digits are those that the library prints; a
 -- whole line is set into its buffer as far as it fits.
-use Prim.Native.Nat.{ℕ, suc, min, ◌+◌, ◌-◌, ◌/◌, ◌%◌, ◌^◌, ◌≤◌, ◌<◌}
+use Prim.Native.Nat.{ℕ, zero, suc, min, ◌+◌, ◌-◌, ◌/◌, ◌%◌, ◌^◌, ◌≤◌, ◌<◌}
 use native.Mathlib.Nat.{add-zero}
 use native.Mathlib.Numerals.{add-one}
 use mathlib.Core.Path.{◌≡◌, refl, sym, ap, ◌∙◌}
 use mathlib.Core.List.{List, [], ◌∷◌, ◌++◌}
+use mathlib.Core.Logic.{◌⊎◌, inl, inr}
+use mathlib.Core.Bool.{Bool, true, false}
 use native.Mathlib.Omega.{arith}
 use lib.ListN.{length, get_or, take, set}
 use lib.Seq.{sets, take-nil, take-suc}
+use lib.Dec.{leb}
+use borrow.Author.Tests.{leb-true, leb-false}
 use Rattle.std.proofs.lemmas.Bool.Decides.{nat_tests}
 use Rattle.std.proofs.lemmas.Fmt.{decimal_from_appends, length-decimal-le, length-decimal-le_succ}
 use Rattle.std.specs.Fmt as printed
@@ -23,6 +27,38 @@ digits_less most n h = grind (arith, nat_tests)
 digits_more : (most n : ℕ) → 10 ≤ n → digits (suc most) n ≡ digits most (n / 10) ++ ((48 + n % 10) ∷ [])
 unfolding digits
 digits_more most n h = grind (arith, nat_tests)
+
+ten : (n : ℕ) → (n < 10) ⊎ (10 ≤ n)
+ten n = by (leb 10 n) refl
+  where
+    by : (b : Bool) → leb 10 n ≡ b → (n < 10) ⊎ (10 ≤ n)
+    by true e = inr (leb-true 10 n e)
+    by false e = inl (leb-false 10 n e)
+
+-- room beyond what the digits need changes nothing
+digits_same : (j k n : ℕ) → n < j → n < k → digits j n ≡ digits k n
+digits_same zero k n h h' = absurd (omega arith)
+digits_same (suc j) zero n h h' = absurd (omega arith)
+digits_same (suc j) (suc k) n h h' = by (ten n) (λ a b. digits_same j k (n / 10) a b)
+  where
+    by : (n < 10) ⊎ (10 ≤ n) → (n / 10 < j → n / 10 < k → digits j (n / 10) ≡ digits k (n / 10)) → digits (suc j) n ≡ digits (suc k) n
+    by (inl small) rest = digits_less j n small ∙ sym (digits_less k n small)
+    by (inr large) rest =
+        digits_more j n large
+        ∙ ap (λ (l : List ℕ). l ++ ((48 + n % 10) ∷ [])) (rest (omega arith) (omega arith))
+        ∙ sym (digits_more k n large)
+
+-- a number of any size: one digit, or those of its tenth and one more
+module _ (n : ℕ) where
+  pub decimal_less : n < 10 → decimal n ≡ (48 + n) ∷ []
+  unfolding decimal
+  decimal_less h = digits_less n n h
+
+  pub decimal_more : 10 ≤ n → decimal n ≡ decimal (n / 10) ++ ((48 + n % 10) ∷ [])
+  unfolding decimal
+  decimal_more h =
+      digits_more n n h
+      ∙ ap (λ (l : List ℕ). l ++ ((48 + n % 10) ∷ [])) (digits_same n (suc (n / 10)) (n / 10) (omega arith) (omega arith))
 
 -- a number of 64 bits has the digits that the library prints
 module _ (n : ℕ) (h : n < 2 ^ 64) where

@@ -32,7 +32,7 @@ impl Line<'_> {
     }
 
     // A walk's end, its hop count and its hops. The count is cast: between usize and u64 there is no `From`, and both have 64 bits.
-    #[tactic(auto, using(crate::proofs::Texts::added_append))]
+    #[tactic(auto, using(crate::proofs::Texts::added_append, crate::proofs::Hops::all_hops))]
     fn put_way(&mut self, word: &str, hops: &[[u8; 2]])
         ensures { self.new ≡ added self.old (way_text word.now (length hops.now) (hops_of hops.now)) }
     {

@@ -62,12 +62,27 @@ pub(crate) fn end_at(bytes: &[u8], at: usize) -> End
     }
 }
 
-// The cable of the row whose kind byte stands at a position.
+// The cable of the row whose kind byte stands at a position. A whole row is read at once, without a test for the end at each byte, which a
+// loop over rows would feel.
 pub(crate) fn cable_at(bytes: &[u8], at: usize) -> Cable
     ensures { result ≡ cable_at bytes.now at }
 {
     if bytes.len() <= at {
         return Cable::default();
+    }
+    if let Some(&[v, p, a, w, q, b]) = bytes[at + 1..].first_chunk::<6>() {
+        return Cable {
+            near: End {
+                switch: v,
+                port: p,
+                preference: a,
+            },
+            far: End {
+                switch: w,
+                port: q,
+                preference: b,
+            },
+        };
     }
     Cable {
         near: end_at(bytes, at + 1),

@@ -52,7 +52,9 @@ pub struct Lists<'a> {
 }
 
 impl<'a> Lists<'a> {
-    // The sheet, then the fault list against it. The outline wants `let .. else` for each check, and no `?`.
+    // The sheet, then the fault list against it. The outline wants `let .. else` for each check, and no `?`. By the hint it stays a call, whose
+    // room on the stack is free again for the rest of a step.
+    #[inline(never)]
     #[tactic(auto, unfolding(crate::specs::Refusals::list_answer))]
     pub fn check_faults(&self) -> Result<Accepted, Refusal>
         ensures { answer_of result ≡ list_answer self.now.sheet.now self.now.faults.now }

@@ -72,6 +72,9 @@ impl<'a> RecordList for Rows<'a> {
         self.sheet
     }
 
+    // The hint puts the body into the reading loop before the loop is simplified, so that a verdict is acted on where it is found, and not
+    // carried to a test at the loop's end (docs/BENCHMARKS.md).
+    #[inline(always)]
     #[tactic(auto, using(crate::proofs::Rows::row_fine))]
     fn take(&mut self, start: usize) -> Result<(), Rule> {
         let c = cable_at(self.sheet, start);

@@ -1,21 +1,32 @@
--- One answer: two results that satisfy a promise are equal, the tag included. The promises of the cell and of the checks are equations of
--- the result with a definition, and leave no room; so is the door's, and its tag's. The others tell an answer by the paper's values,
--- which differ wherever answers do.
+-- One answer: two results that satisfy a promise are equal, the tag included. The promises of the cell are equations of the result with a
+-- definition, and leave no room; so is the door's, and its tag's. The others tell an answer: a check's by whether it passed or its number, a
+-- step's by the paper's values and the far end, which differ wherever answers do.
 use Prim.Native.Nat.{ℕ}
 use mathlib.Core.Path.{◌≡◌, refl, ap, ap₂, sym, ◌∙◌}
 use mathlib.Core.List.{List}
 use native.Mathlib.Omega.{arith}
 use Rattle.std.specs.Prelude.{Result, Ok, Err}
+use Rattle.sheet.specs.Refusals.{refusal_number}
 use Rattle.sheet.specs.declared.order.FarEnd.{FarEnd}
 use Rattle.sheet.specs.declared.refusals.Refusal.{Refusal}
 use Rattle.sheet.proofs.OneAnswer.{one_refusal}
 use Rattle.switch.specs.Answers.{paper_of, move_paper}
+use Rattle.switch.specs.Checks.{check_of}
 use Rattle.switch.specs.Step.{Stepped, away_of, move_far, answer_far, told, told_move}
 use Rattle.switch.specs.declared.step.Move.{Move}
 use Rattle.switch.specs.declared.step.Move.TheVariants.{Leaves, Delivered, Nowhere}
 
 one_far : (e e' : FarEnd) → away_of e ≡ away_of e' → e ≡ e'
 one_far e e' same = (λ i. record { switch = record { 0 = (same i).switch }; port = record { 0 = (same i).port } })
+
+-- ---- the checks
+
+pub one_passed : (r r' : Result (Unit {0}) Refusal) → check_of r ≡ check_of r' → r ≡ r'
+one_passed (Ok u) (Ok u') e = refl
+one_passed (Ok u) (Err refusal) e = cc
+one_passed (Err refusal) (Ok u) e = cc
+one_passed (Err refusal) (Err refusal') e =
+    let same : refusal_number refusal ≡ refusal_number refusal' = cc in ap (λ r. Err r) (one_refusal refusal refusal' same)
 
 -- ---- the paper's values and the far end tell the case
 

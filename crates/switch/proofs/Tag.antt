@@ -19,7 +19,7 @@ use Rattle.sheet.specs.Exactly.{BothAccepted}
 use Rattle.sheet.specs.declared.cables.Cable.{Cable}
 use Rattle.sheet.proofs.Exactly.{both_accepted}
 use Rattle.switch.specs.Choice.{Outcome, leaves, stays, choose}
-use Rattle.switch.specs.Cell.{cell_of, with_cell, entered, left_by}
+use Rattle.switch.specs.Cell.{CellFits, cell_of, with_cell, entered, left_by}
 use Rattle.switch.specs.Checks.{rule, switches_rule, arrival_rule, fresh_rule, cell_rule, first_broken, checks}
 use Rattle.switch.specs.Step.{Stepped, stopped, moved, advanced, unless, stepped}
 use Rattle.switch.specs.Exactly.{Marked}
@@ -31,6 +31,18 @@ use Rattle.switch.proofs.Blank.{marked}
 use Rattle.switch.proofs.Stepping.{lists_rows, lists_sound, Advances, delivered, undelivered, forwarded, advances}
 use Rattle.switch.proofs.Stepping.{Steps, lists_refuse, check_refuses, passes, steps, stepped_refused, stepped_accepted}
 use Rattle.switch.proofs.Exactly.{passed_inside}
+
+-- ---- a cell that fits its two bytes fits them when it is entered and when it is left
+
+pub entered_fits : {old new : Cell} {arrival : ℕ} → CellFits old → arrival < 256 → new ≡ entered old arrival → CellFits new
+entered_fits {old} {new} {arrival} fits small e = rw e (record { parent = go (eqb old.current.0 0); current = fits.current })
+  where
+    go : (b : Bool) → pick b arrival old.parent.0 < 256
+    go true = small
+    go false = fits.parent
+
+pub left_fits : {old new : Cell} {port : ℕ} → CellFits old → port < 256 → new ≡ left_by old port → CellFits new
+left_fits fits small e = rw e (record { parent = fits.parent; current = small })
 
 -- ---- a cell written to a tag
 

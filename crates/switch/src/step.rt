@@ -8,7 +8,7 @@ use crate::choice::Leave;
 use crate::ports::Ports;
 use sheet::check::Lists;
 use sheet::numbers::{Port, Switch};
-use sheet::order::{FarEnd, port_order};
+use sheet::order::{FarEnd, Places, port_order};
 use sheet::refusals::Refusal;
 
 // How a step ends that has passed the checks.
@@ -68,7 +68,8 @@ pub fn step(
     let Ok(()) = long else {
         return Err(long.unwrap_err());
     };
-    let places = port_order(lists.sheet, v);
+    let mut places = Places::new();
+    port_order(lists.sheet, v, &mut places);
     let ports = Ports::new(*lists, places.as_slice());
     let arrived = ports.check_arrival(arrival);
     let Ok(()) = arrived else {

@@ -112,7 +112,7 @@ module _ {s faults tag₀ trace₀ : List ℕ} {source destination : ℕ} where
       switch_small : at < 256
       switch_small = omega (arith, c.here, so.on.1, few.0)
 
-      ready : Ready tag at arrival
+      pub ready : Ready tag at arrival
       ready =
           record {
             cell = record { low = omega (arith, c.here, so.on.0); inside = inside };
@@ -122,7 +122,13 @@ module _ {s faults tag₀ trace₀ : List ℕ} {source destination : ℕ} where
           inside : 2 * at ≤ length tag
           inside = rw c.tag_is (simp length-append (omega (arith, c.here, so.on.1, so.long)))
 
-      trace_size : length trace ≡ length trace₀
+      pub tag_size : length tag ≡ length tag₀
+      tag_size =
+          ap length c.tag_is
+          ∙ simp (length-append, length-drop)
+          (omega (arith, so.long, lists_switches s faults c.premises.lists, c.premises.tag_room))
+
+      pub trace_size : length trace ≡ length trace₀
       trace_size =
           ap length c.trace_is
           ∙ simp (length-append, length-drop)

@@ -10,7 +10,7 @@ ghost use Rattle.walk.specs.Condition3.{Reachable, Premises, hops_in, Condition3
 
 use sheet::check::Lists;
 use sheet::numbers::{NO_PORT, Port, Switch};
-use sheet::order::port_order;
+use sheet::order::{Places, port_order};
 use sheet::refusals::Refusal;
 use switch::checks::{check_switches, check_tag, rule};
 use switch::ports::Ports;
@@ -71,7 +71,8 @@ fn move_on(
     ensures { told_move result tag.new
         ≡ advanced (order_at lists.now.sheet.now at.0) lists.now.faults.now tag.old at.0 arrival.0 destination.0 }
 {
-    let places = port_order(lists.sheet, at);
+    let mut places = Places::new();
+    port_order(lists.sheet, at, &mut places);
     let ports = Ports::new(*lists, places.as_slice());
     advance(&ports, tag, at, arrival, destination)
 }

@@ -10,7 +10,7 @@ pub advance-requires : goal.advance-requires
 advance-requires c =
     let a = c.args in
     let ordered = c.new-ports.ensures.order
-    ∙ placed_order a.lists.now.sheet.now a.v.0 (c.as_slice.ensures.value ∙ c.port_order-places.ensures) in
+    ∙ placed_order a.lists.now.sheet.now a.v.0 (c.as_slice.ensures.value ∙ c.port_order.ensures) in
     let arrived = c.check_arrival-arrived.ensures ∙ (λ i. arrival_rule (ordered i) (c.new-ports.ensures.faults i) a.arrival.0) in
     record {
       cell = cell_inside c.in-Ok.accepted.switches a.tag.now a.v.0 a.d.0 (grind arith) (grind arith);
